@@ -1,9 +1,9 @@
 -- What each kind of cell gives fits, where what it takes does.
-use Rattle.std.proofs.Common.{ℕ, ◌%◌, ◌<◌, ◌≤◌, Bool, true, false, arith}
-use Rattle.std.specs.Prelude.{nat_eq, bit_and, if◌then◌else◌}
-use Rattle.std.proofs.lemmas.Nat.{and_le_l, or_of_8, xor_of_8, mod_below}
-use Rattle.std.specs.Prelude.{bit_or, bit_xor}
-use Rattle.dvg_cells_core.specs.Cells.{bit, both, either, mux, none}
+use Rattle.std.proofs.Common.{ℕ, ◌+◌, ◌^◌, ◌%◌, ◌<◌, ◌≤◌, Bool, true, false, arith}
+use Rattle.std.specs.Prelude.{nat_eq, bit_and, bit_or, bit_xor, if◌then◌else◌}
+use Rattle.std.proofs.lemmas.Nat.{and_le_l, or_of_8, xor_of_8, mod_below, pow-add}
+use Rattle.std.proofs.Math.Nat.{mul-le-mul_left}
+use Rattle.dvg_cells_core.specs.Cells.{bit, both, either, mux, none, joined}
 
 pub mod_in : (a n : ℕ) → 0 < n → a % n < n
 mod_in a n some = mod_below a n some
@@ -53,3 +53,6 @@ or_in a b p q = or_of_8 a b p q
 
 pub xor_in : (a b : ℕ) → a < 256 → b < 256 → bit_xor a b < 256
 xor_in a b p q = xor_of_8 a b p q
+
+pub joined_in : (w m low high : ℕ) → low < 2 ^ w → high < 2 ^ m → joined w low high < 2 ^ (w + m)
+joined_in w m low high l h = let most = mul-le-mul_left (2 ^ w) h in let e = pow-add 2 w m in omega (arith, most, e)

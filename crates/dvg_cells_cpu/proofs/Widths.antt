@@ -1,59 +1,17 @@
 -- Each wire that a register or a pin rests on fits its width. Written by crates/dvg_cells_cpu/tables.
-use Rattle.std.proofs.Common.{ℕ, ◌/◌, ◌<◌, arith, lit<}
+use Rattle.std.proofs.Common.{ℕ, ◌<◌, lit<, lit≤}
 use Rattle.std.specs.Prelude.{nat_eq, nat_le, bit_and, bit_or, bit_xor}
 use Rattle.dvg_cells_core.specs.Cells.{add, sub, both, either, eq, lt, mux, none, part, joined}
 use Rattle.dvg_cells_cpu.specs.Cells.{ge}
 use Rattle.dvg_cells_cpu.specs.Cpu.{Cpu as Cells, Pins, clock, at, write, dout}
 use Rattle.dvg_cells_cpu.specs.Widths.{Fits}
 use Rattle.dvg_cells_cpu.proofs.Bounds.{mod_in, wider, mux_in, bit_in, none_in, both_in, either_in, and_in, or_in}
-use Rattle.dvg_cells_cpu.proofs.Bounds.{xor_in}
+use Rattle.dvg_cells_cpu.proofs.Bounds.{xor_in, joined_in}
 
 pub all_in : (cells : Cells) (pins : Pins) → Fits cells → pins.nmi < 2 → pins.din < 256
     → Fits (clock cells pins) × (at cells < 65536) × (write cells < 2) × (dout cells < 256)
 all_in cells pins fits nmi_in din_in =
-    let w_n4 : ℕ = add 8 pins.din 1 in
-    let n4_in : w_n4 < 256 = mod_in _ 256 (lit< tt) in
-    let w_n5 : ℕ = add 8 pins.din 255 in
-    let n5_in : w_n5 < 256 = mod_in _ 256 (lit< tt) in
-    let w_n6 : ℕ = add 8 cells.x 1 in
-    let n6_in : w_n6 < 256 = mod_in _ 256 (lit< tt) in
-    let w_n7 : ℕ = add 8 cells.y 1 in
-    let n7_in : w_n7 < 256 = mod_in _ 256 (lit< tt) in
-    let w_n8 : ℕ = add 8 cells.x 255 in
-    let n8_in : w_n8 < 256 = mod_in _ 256 (lit< tt) in
-    let w_n9 : ℕ = add 8 cells.y 255 in
-    let n9_in : w_n9 < 256 = mod_in _ 256 (lit< tt) in
-    let w_pc1 : ℕ = add 16 cells.pc 1 in
-    let pc1_in : w_pc1 < 65536 = mod_in _ 65536 (lit< tt) in
-    let w_pc2 : ℕ = add 16 cells.pc 2 in
-    let pc2_in : w_pc2 < 65536 = mod_in _ 65536 (lit< tt) in
-    let w_pc3 : ℕ = add 16 cells.pc 3 in
-    let pc3_in : w_pc3 < 65536 = mod_in _ 65536 (lit< tt) in
-    let w_s1 : ℕ = add 8 cells.s 1 in
-    let s1_in : w_s1 < 256 = mod_in _ 256 (lit< tt) in
-    let w_low1 : ℕ = add 8 cells.low 1 in
-    let low1_in : w_low1 < 256 = mod_in _ 256 (lit< tt) in
-    let w_pointed : ℕ = add 16 (joined 8 cells.high pins.din) cells.y in
-    let pointed_in : w_pointed < 65536 = mod_in _ 65536 (lit< tt) in
-    let w_n10 : ℕ = add 8 cells.s 255 in
-    let n10_in : w_n10 < 256 = mod_in _ 256 (lit< tt) in
-    let w_n12 : ℕ = add 16 (joined 8 cells.low pins.din) 1 in
-    let n12_in : w_n12 < 65536 = mod_in _ 65536 (lit< tt) in
-    let w_n13 : ℕ = bit_and cells.a pins.din in
-    let n13_in : w_n13 < 256 = and_in cells.a pins.din 256 fits.a in
-    let w_n14 : ℕ = bit_and cells.a pins.din in
-    let w_n44 : ℕ = eq cells.ir 132 in
-    let w_n45 : ℕ = eq cells.ir 148 in
-    let w_n46 : ℕ = eq cells.ir 140 in
-    let w_n47 : ℕ = eq cells.ir 134 in
-    let w_n48 : ℕ = eq cells.ir 150 in
-    let w_n49 : ℕ = eq cells.ir 142 in
-    let w_n50 : ℕ = eq (part 0 2 cells.ir) 1 in
-    let w_n51 : ℕ = eq (part 5 3 cells.ir) 4 in
-    let w_n52 : ℕ = eq (part 2 3 cells.ir) 2 in
     let w_n83 : ℕ = eq cells.ir 8 in
-    let w_n84 : ℕ = eq cells.state 2 in
-    let w_n85 : ℕ = eq cells.state 2 in
     let w_is_reset_low : ℕ = none cells.state in
     let w_is_reset_high : ℕ = eq cells.state 1 in
     let w_is_first : ℕ = eq cells.state 3 in
@@ -74,138 +32,18 @@ all_in cells pins fits nmi_in din_in =
     let w_is_jump_high : ℕ = eq cells.state 18 in
     let w_is_push : ℕ = eq cells.state 19 in
     let w_is_pull : ℕ = eq cells.state 20 in
-    let w_n88 : ℕ = ge (part 0 7 pins.din) 64 in
-    let n88_in : w_n88 < 2 = bit_in (nat_le 64 (part 0 7 pins.din)) in
-    let w_n91 : ℕ = ge pins.din 128 in
-    let w_n96 : ℕ = both w_n50 w_n51 in
-    let w_push_flags : ℕ = both w_is_push w_n83 in
-    let push_flags_in : w_push_flags < 2 = both_in w_is_push w_n83 in
-    let w_is_nmi_high : ℕ = both w_n85 cells.due in
-    let w_n150 : ℕ = none w_n52 in
-    let w_store_a : ℕ = both w_n96 w_n150 in
-    let w_n156 : ℕ = none w_push_flags in
-    let w_n113 : ℕ = both w_is_push w_n156 in
-    let w_n157 : ℕ = none cells.was in
-    let w_n114 : ℕ = both pins.nmi w_n157 in
-    let w_n158 : ℕ = none w_is_nmi_high in
-    let w_n115 : ℕ = both cells.due w_n158 in
-    let w_n161 : ℕ = none cells.due in
-    let w_sync : ℕ = both w_n84 w_n161 in
-    let w_n178 : ℕ = either w_n44 w_n45 in
-    let w_store_y : ℕ = either w_n178 w_n46 in
-    let w_n179 : ℕ = either w_n47 w_n48 in
-    let w_store_x : ℕ = either w_n179 w_n49 in
-    let w_n180 : ℕ = either w_store_y w_store_x in
-    let w_store : ℕ = either w_n180 w_store_a in
-    let w_n112 : ℕ = both w_is_data w_store in
-    let w_n152 : ℕ = none w_store in
-    let w_n106 : ℕ = both w_is_data w_n152 in
-    let w_n240 : ℕ = either w_is_call_high w_is_call_low in
-    let w_n241 : ℕ = either w_n240 w_is_nmi_high in
-    let w_n242 : ℕ = either w_n241 w_is_nmi_low in
-    let w_n243 : ℕ = either w_n242 w_is_nmi_flags in
-    let w_pushes : ℕ = either w_n243 w_is_push in
-    let w_n244 : ℕ = either w_is_pull_low w_is_pull_high in
-    let w_pulls : ℕ = either w_n244 w_is_pull in
-    let w_n245 : ℕ = either w_pushes w_is_back in
-    let w_write : ℕ = either w_n245 w_n112 in
-    let write_in : w_write < 2 = either_in w_n245 w_n112 in
-    let w_n246 : ℕ = either w_is_data w_is_back in
-    let w_n247 : ℕ = either w_n114 w_n115 in
-    let n247_in : w_n247 < 2 = either_in w_n114 w_n115 in
-    let w_n250 : ℕ = either w_is_nmi_flags w_is_reset_high in
-    let w_n252 : ℕ = either w_is_pull_low w_is_reset_low in
-    let w_n253 : ℕ = either w_n252 w_is_nmi_to_low in
-    let w_n254 : ℕ = either w_is_second w_is_point_low in
-    let w_n255 : ℕ = either w_is_nmi_to_high w_is_reset_high in
-    let w_n267 : ℕ = bit_or cells.a pins.din in
-    let n267_in : w_n267 < 256 = or_in cells.a pins.din fits.a din_in in
-    let w_n268 : ℕ = mux pins.step w_n247 cells.due in
-    let n268_in : w_n268 < 2 = mux_in pins.step w_n247 cells.due 2 n247_in fits.due in
-    let w_n269 : ℕ = mux pins.reset 0 w_n268 in
-    let n269_in : w_n269 < 2 = mux_in pins.reset 0 w_n268 2 (lit< tt) n268_in in
-    let w_n270 : ℕ = mux pins.step pins.nmi cells.was in
-    let n270_in : w_n270 < 2 = mux_in pins.step pins.nmi cells.was 2 nmi_in fits.was in
-    let w_n271 : ℕ = mux pins.reset pins.nmi w_n270 in
-    let n271_in : w_n271 < 2 = mux_in pins.reset pins.nmi w_n270 2 nmi_in n270_in in
-    let w_n272 : ℕ = mux w_is_jump_low pins.din cells.back in
-    let n272_in : w_n272 < 256 = mux_in w_is_jump_low pins.din cells.back 256 din_in fits.back in
-    let w_n282 : ℕ = mux w_n253 pins.din cells.low in
-    let n282_in : w_n282 < 256 = mux_in w_n253 pins.din cells.low 256 din_in fits.low in
-    let w_n288 : ℕ = mux w_sync pins.din cells.ir in
-    let n288_in : w_n288 < 256 = mux_in w_sync pins.din cells.ir 256 din_in fits.ir in
-    let w_n289 : ℕ = mux pins.step w_n288 cells.ir in
-    let n289_in : w_n289 < 256 = mux_in pins.step w_n288 cells.ir 256 n288_in fits.ir in
-    let w_n290 : ℕ = mux pins.reset cells.ir w_n289 in
-    let n290_in : w_n290 < 256 = mux_in pins.reset cells.ir w_n289 256 fits.ir n289_in in
-    let w_n301 : ℕ = mux w_n250 1 cells.i in
-    let n301_in : w_n301 < 2 = mux_in w_n250 1 cells.i 2 (lit< tt) fits.i in
-    let w_n320 : ℕ = mux w_is_reset_high 253 cells.s in
-    let n320_in : w_n320 < 256 = mux_in w_is_reset_high 253 cells.s 256 (lit< tt) fits.s in
-    let w_n335 : ℕ = sub 8 255 pins.din in
-    let w_n370 : ℕ = mux w_n91 255 0 in
-    let w_target : ℕ = add 16 w_pc2 (joined 8 pins.din w_n370) in
-    let target_in : w_target < 65536 = mod_in _ 65536 (lit< tt) in
-    let w_n384 : ℕ = mux w_is_reset_low 65532 65533 in
-    let n384_in : w_n384 < 65536 = mux_in w_is_reset_low 65532 65533 65536 (lit< tt) (lit< tt) in
-    let w_n383 : ℕ = mux w_is_nmi_to_high 65531 w_n384 in
-    let n383_in : w_n383 < 65536 = mux_in w_is_nmi_to_high 65531 w_n384 65536 (lit< tt) n384_in in
-    let w_n382 : ℕ = mux w_is_nmi_to_low 65530 w_n383 in
-    let n382_in : w_n382 < 65536 = mux_in w_is_nmi_to_low 65530 w_n383 65536 (lit< tt) n383_in in
-    let w_n381 : ℕ = mux w_is_jump_high (joined 8 w_low1 cells.high) w_n382 in
-    let n381_in : w_n381 < 65536 = mux_in w_is_jump_high (joined 8 w_low1 cells.high) w_n382 65536 (let l1 : w_low1 < 256 = low1_in in let h1 : cells.high < 256 = fits.high in let j1 : joined 8 w_low1 cells.high < 65536 = omega arith in j1) n382_in in
-    let w_n380 : ℕ = mux w_is_jump_low (joined 8 cells.low cells.high) w_n381 in
-    let n380_in : w_n380 < 65536 = mux_in w_is_jump_low (joined 8 cells.low cells.high) w_n381 65536 (let l2 : cells.low < 256 = fits.low in let h2 : cells.high < 256 = fits.high in let j2 : joined 8 cells.low cells.high < 65536 = omega arith in j2) n381_in in
-    let w_n379 : ℕ = mux w_pulls (joined 8 w_s1 1) w_n380 in
-    let n379_in : w_n379 < 65536 = mux_in w_pulls (joined 8 w_s1 1) w_n380 65536 (let l3 : w_s1 < 256 = s1_in in let h3 : 1 < 256 = lit< tt in let j3 : joined 8 w_s1 1 < 65536 = omega arith in j3) n380_in in
-    let w_n378 : ℕ = mux w_pushes (joined 8 cells.s 1) w_n379 in
-    let n378_in : w_n378 < 65536 = mux_in w_pushes (joined 8 cells.s 1) w_n379 65536 (let l4 : cells.s < 256 = fits.s in let h4 : 1 < 256 = lit< tt in let j4 : joined 8 cells.s 1 < 65536 = omega arith in j4) n379_in in
-    let w_n377 : ℕ = mux w_n246 (joined 8 cells.low cells.high) w_n378 in
-    let n377_in : w_n377 < 65536 = mux_in w_n246 (joined 8 cells.low cells.high) w_n378 65536 (let l5 : cells.low < 256 = fits.low in let h5 : cells.high < 256 = fits.high in let j5 : joined 8 cells.low cells.high < 65536 = omega arith in j5) n378_in in
-    let w_n376 : ℕ = mux w_is_point_high w_low1 w_n377 in
-    let n376_in : w_n376 < 65536 = mux_in w_is_point_high w_low1 w_n377 65536 (wider w_low1 256 65536 low1_in (omega arith)) n377_in in
-    let w_n375 : ℕ = mux w_is_point_low cells.low w_n376 in
-    let n375_in : w_n375 < 65536 = mux_in w_is_point_low cells.low w_n376 65536 (wider cells.low 256 65536 fits.low (omega arith)) n376_in in
-    let w_n374 : ℕ = mux w_is_second w_pc2 w_n375 in
-    let n374_in : w_n374 < 65536 = mux_in w_is_second w_pc2 w_n375 65536 pc2_in n375_in in
-    let w_n373 : ℕ = mux w_is_first w_pc1 w_n374 in
-    let n373_in : w_n373 < 65536 = mux_in w_is_first w_pc1 w_n374 65536 pc1_in n374_in in
-    let w_at : ℕ = mux w_sync cells.pc w_n373 in
-    let at_in : w_at < 65536 = mux_in w_sync cells.pc w_n373 65536 fits.pc n373_in in
-    let w_n385 : ℕ = mux w_store_y cells.y cells.a in
-    let n385_in : w_n385 < 256 = mux_in w_store_y cells.y cells.a 256 fits.y fits.a in
-    let w_n386 : ℕ = mux w_store_x cells.x w_n385 in
-    let n386_in : w_n386 < 256 = mux_in w_store_x cells.x w_n385 256 fits.x n385_in in
-    let w_n392 : ℕ = mux w_n113 cells.a (joined 1 cells.c (joined 1 cells.z (joined 1 cells.i (joined 1 cells.d (joined 1 w_push_flags (joined 1 1 (joined 1 cells.v cells.n))))))) in
-    let n392_in : w_n392 < 256 = mux_in w_n113 cells.a (joined 1 cells.c (joined 1 cells.z (joined 1 cells.i (joined 1 cells.d (joined 1 w_push_flags (joined 1 1 (joined 1 cells.v cells.n))))))) 256 fits.a (let l12 : cells.c < 2 = fits.c in let h12 : (joined 1 cells.z (joined 1 cells.i (joined 1 cells.d (joined 1 w_push_flags (joined 1 1 (joined 1 cells.v cells.n)))))) < 128 = (let l11 : cells.z < 2 = fits.z in let h11 : (joined 1 cells.i (joined 1 cells.d (joined 1 w_push_flags (joined 1 1 (joined 1 cells.v cells.n))))) < 64 = (let l10 : cells.i < 2 = fits.i in let h10 : (joined 1 cells.d (joined 1 w_push_flags (joined 1 1 (joined 1 cells.v cells.n)))) < 32 = (let l9 : cells.d < 2 = fits.d in let h9 : (joined 1 w_push_flags (joined 1 1 (joined 1 cells.v cells.n))) < 16 = (let l8 : w_push_flags < 2 = push_flags_in in let h8 : (joined 1 1 (joined 1 cells.v cells.n)) < 8 = (let l7 : 1 < 2 = lit< tt in let h7 : (joined 1 cells.v cells.n) < 4 = (let l6 : cells.v < 2 = fits.v in let h6 : cells.n < 2 = fits.n in let j6 : joined 1 cells.v cells.n < 4 = omega arith in j6) in let j7 : joined 1 1 (joined 1 cells.v cells.n) < 8 = omega arith in j7) in let j8 : joined 1 w_push_flags (joined 1 1 (joined 1 cells.v cells.n)) < 16 = omega arith in j8) in let j9 : joined 1 cells.d (joined 1 w_push_flags (joined 1 1 (joined 1 cells.v cells.n))) < 32 = omega arith in j9) in let j10 : joined 1 cells.i (joined 1 cells.d (joined 1 w_push_flags (joined 1 1 (joined 1 cells.v cells.n)))) < 64 = omega arith in j10) in let j11 : joined 1 cells.z (joined 1 cells.i (joined 1 cells.d (joined 1 w_push_flags (joined 1 1 (joined 1 cells.v cells.n))))) < 128 = omega arith in j11) in let j12 : joined 1 cells.c (joined 1 cells.z (joined 1 cells.i (joined 1 cells.d (joined 1 w_push_flags (joined 1 1 (joined 1 cells.v cells.n)))))) < 256 = omega arith in j12) in
-    let w_n391 : ℕ = mux w_is_nmi_low (part 0 8 cells.pc) w_n392 in
-    let n391_in : w_n391 < 256 = mux_in w_is_nmi_low (part 0 8 cells.pc) w_n392 256 (mod_in (cells.pc / 1) 256 (lit< tt)) n392_in in
-    let w_n390 : ℕ = mux w_is_nmi_high (part 8 8 cells.pc) w_n391 in
-    let n390_in : w_n390 < 256 = mux_in w_is_nmi_high (part 8 8 cells.pc) w_n391 256 (mod_in (cells.pc / 256) 256 (lit< tt)) n391_in in
-    let w_n389 : ℕ = mux w_is_call_low (part 0 8 w_pc2) w_n390 in
-    let n389_in : w_n389 < 256 = mux_in w_is_call_low (part 0 8 w_pc2) w_n390 256 (mod_in (w_pc2 / 1) 256 (lit< tt)) n390_in in
-    let w_n388 : ℕ = mux w_is_call_high (part 8 8 w_pc2) w_n389 in
-    let n388_in : w_n388 < 256 = mux_in w_is_call_high (part 8 8 w_pc2) w_n389 256 (mod_in (w_pc2 / 256) 256 (lit< tt)) n389_in in
-    let w_n387 : ℕ = mux w_is_back cells.back w_n388 in
-    let n387_in : w_n387 < 256 = mux_in w_is_back cells.back w_n388 256 fits.back n388_in in
-    let w_dout : ℕ = mux w_is_data w_n386 w_n387 in
-    let dout_in : w_dout < 256 = mux_in w_is_data w_n386 w_n387 256 n386_in n387_in in
-    let w_n409 : ℕ = mux w_n255 (joined 8 cells.low pins.din) cells.pc in
-    let n409_in : w_n409 < 65536 = mux_in w_n255 (joined 8 cells.low pins.din) cells.pc 65536 (let l13 : cells.low < 256 = fits.low in let h13 : pins.din < 256 = din_in in let j13 : joined 8 cells.low pins.din < 65536 = omega arith in j13) fits.pc in
-    let w_n431 : ℕ = mux w_is_reset_low 1 2 in
-    let n431_in : w_n431 < 21 = mux_in w_is_reset_low 1 2 21 (lit< tt) (lit< tt) in
-    let w_n430 : ℕ = mux w_is_nmi_to_low 16 w_n431 in
-    let n430_in : w_n430 < 21 = mux_in w_is_nmi_to_low 16 w_n431 21 (lit< tt) n431_in in
-    let w_n429 : ℕ = mux w_is_nmi_flags 15 w_n430 in
-    let n429_in : w_n429 < 21 = mux_in w_is_nmi_flags 15 w_n430 21 (lit< tt) n430_in in
-    let w_n428 : ℕ = mux w_is_nmi_low 14 w_n429 in
-    let n428_in : w_n428 < 21 = mux_in w_is_nmi_low 14 w_n429 21 (lit< tt) n429_in in
+    let w_is_nmi_high : ℕ = both (eq cells.state 2) cells.due in
+    let w_sync : ℕ = both (eq cells.state 2) (none cells.due) in
+    let w_store_y : ℕ = either (either (eq cells.ir 132) (eq cells.ir 148)) (eq cells.ir 140) in
+    let w_store_x : ℕ = either (either (eq cells.ir 134) (eq cells.ir 150)) (eq cells.ir 142) in
+    let w_store : ℕ = either (either w_store_y w_store_x) (both (both (eq (part 0 2 cells.ir) 1) (eq (part 5 3 cells.ir)
+    4)) (none (eq (part 2 3 cells.ir) 2))) in
+    let w_pushes : ℕ = either (either (either (either (either w_is_call_high w_is_call_low) w_is_nmi_high) w_is_nmi_low)
+    w_is_nmi_flags) w_is_push in
+    let w_pulls : ℕ = either (either w_is_pull_low w_is_pull_high) w_is_pull in
     let w_op : ℕ = mux w_sync pins.din cells.ir in
     let w_rti : ℕ = eq w_op 64 in
-    let w_pha : ℕ = eq w_op 72 in
-    let w_php : ℕ = eq w_op 8 in
     let w_pla : ℕ = eq w_op 104 in
-    let w_plp : ℕ = eq w_op 40 in
     let w_tax : ℕ = eq w_op 170 in
     let w_tay : ℕ = eq w_op 168 in
     let w_txa : ℕ = eq w_op 138 in
@@ -218,597 +56,186 @@ all_in cells pins fits nmi_in din_in =
     let w_dey : ℕ = eq w_op 136 in
     let w_clc : ℕ = eq w_op 24 in
     let w_sec : ℕ = eq w_op 56 in
-    let sec_in : w_sec < 2 = bit_in (nat_eq w_op 56) in
     let w_cli : ℕ = eq w_op 88 in
     let w_sei : ℕ = eq w_op 120 in
-    let sei_in : w_sei < 2 = bit_in (nat_eq w_op 120) in
     let w_clv : ℕ = eq w_op 184 in
     let w_cld : ℕ = eq w_op 216 in
     let w_sed : ℕ = eq w_op 248 in
-    let sed_in : w_sed < 2 = bit_in (nat_eq w_op 248) in
-    let w_nop : ℕ = eq w_op 234 in
-    let w_n15 : ℕ = eq (part 2 3 w_op) 4 in
-    let w_n16 : ℕ = eq (part 2 3 w_op) 2 in
-    let w_n17 : ℕ = eq (part 2 3 w_op) 4 in
-    let w_n18 : ℕ = eq (part 2 3 w_op) 6 in
-    let w_n19 : ℕ = eq (part 5 3 w_op) 5 in
-    let w_n20 : ℕ = eq (part 5 3 w_op) 5 in
-    let w_n21 : ℕ = eq (part 5 3 w_op) 5 in
-    let w_n22 : ℕ = eq w_op 192 in
-    let w_n23 : ℕ = eq w_op 196 in
-    let w_n24 : ℕ = eq w_op 204 in
-    let w_n25 : ℕ = eq w_op 224 in
-    let w_n26 : ℕ = eq w_op 228 in
-    let w_n27 : ℕ = eq w_op 236 in
-    let w_n28 : ℕ = eq (part 5 3 w_op) 6 in
-    let w_n29 : ℕ = eq w_op 36 in
-    let w_n30 : ℕ = eq w_op 44 in
-    let w_n31 : ℕ = none (part 5 3 w_op) in
-    let w_n32 : ℕ = eq (part 5 3 w_op) 1 in
-    let w_n33 : ℕ = eq (part 5 3 w_op) 2 in
-    let w_n34 : ℕ = eq (part 5 3 w_op) 3 in
-    let w_n35 : ℕ = eq (part 5 3 w_op) 7 in
-    let w_n36 : ℕ = eq w_op 132 in
-    let w_n37 : ℕ = eq w_op 148 in
-    let w_n38 : ℕ = eq w_op 140 in
-    let w_n39 : ℕ = eq w_op 134 in
-    let w_n40 : ℕ = eq w_op 150 in
-    let w_n41 : ℕ = eq w_op 142 in
-    let w_n42 : ℕ = eq (part 5 3 w_op) 4 in
-    let w_n43 : ℕ = eq (part 2 3 w_op) 2 in
-    let w_n53 : ℕ = eq (part 2 3 w_op) 2 in
-    let w_n54 : ℕ = eq (part 2 3 w_op) 1 in
-    let w_n55 : ℕ = eq (part 2 3 w_op) 3 in
-    let w_n56 : ℕ = eq (part 2 3 w_op) 5 in
-    let w_n57 : ℕ = eq (part 2 3 w_op) 7 in
-    let w_n58 : ℕ = eq (part 5 3 w_op) 4 in
-    let w_n59 : ℕ = eq (part 5 3 w_op) 5 in
-    let w_n60 : ℕ = none (part 5 3 w_op) in
-    let w_n61 : ℕ = eq (part 5 3 w_op) 1 in
-    let w_n62 : ℕ = eq (part 5 3 w_op) 2 in
-    let w_n63 : ℕ = eq (part 5 3 w_op) 3 in
-    let w_n64 : ℕ = eq (part 5 3 w_op) 6 in
-    let w_n65 : ℕ = eq (part 5 3 w_op) 7 in
-    let w_n66 : ℕ = eq (part 2 3 w_op) 2 in
-    let w_n67 : ℕ = none (part 2 3 w_op) in
-    let w_n68 : ℕ = eq (part 2 3 w_op) 1 in
-    let w_n69 : ℕ = eq (part 2 3 w_op) 3 in
-    let w_n70 : ℕ = none (part 2 3 w_op) in
-    let w_n71 : ℕ = eq (part 2 3 w_op) 4 in
-    let w_n72 : ℕ = eq (part 2 3 w_op) 5 in
-    let w_n73 : ℕ = eq (part 2 3 w_op) 7 in
-    let w_n74 : ℕ = eq (part 2 3 w_op) 6 in
-    let w_n75 : ℕ = eq (part 2 3 w_op) 6 in
-    let w_n76 : ℕ = eq (part 5 3 w_op) 4 in
-    let w_n77 : ℕ = eq (part 5 3 w_op) 5 in
-    let w_n80 : ℕ = none (part 6 2 w_op) in
-    let w_n81 : ℕ = eq (part 6 2 w_op) 1 in
-    let w_n82 : ℕ = eq (part 6 2 w_op) 2 in
     let w_group0 : ℕ = none (part 0 2 w_op) in
     let w_group1 : ℕ = eq (part 0 2 w_op) 1 in
     let w_group2 : ℕ = eq (part 0 2 w_op) 2 in
     let w_jmp : ℕ = eq w_op 76 in
     let w_jump_at : ℕ = eq w_op 108 in
     let w_jsr : ℕ = eq w_op 32 in
-    let w_rts : ℕ = eq w_op 96 in
-    let w_branch : ℕ = both w_group0 w_n15 in
-    let w_n92 : ℕ = both w_group0 w_n19 in
-    let w_n93 : ℕ = both w_group2 w_n20 in
-    let w_load_a : ℕ = both w_group1 w_n21 in
-    let w_compare_a : ℕ = both w_group1 w_n28 in
-    let w_or_a : ℕ = both w_group1 w_n31 in
-    let w_and_a : ℕ = both w_group1 w_n32 in
-    let w_xor_a : ℕ = both w_group1 w_n33 in
-    let w_adc : ℕ = both w_group1 w_n34 in
-    let w_sbc : ℕ = both w_group1 w_n35 in
-    let w_n94 : ℕ = both w_group1 w_n42 in
-    let w_n97 : ℕ = both w_group2 w_n53 in
-    let w_n101 : ℕ = both w_group1 w_n74 in
-    let w_n102 : ℕ = both w_group1 w_n75 in
-    let w_n107 : ℕ = both w_is_pull w_pla in
-    let w_n109 : ℕ = both w_adc cells.d in
-    let w_n111 : ℕ = both w_adc cells.d in
-    let w_n130 : ℕ = both w_is_first w_branch in
-    let w_n131 : ℕ = both w_is_second w_jmp in
-    let w_n133 : ℕ = both w_is_pull_high w_rti in
-    let w_n136 : ℕ = both w_sync w_rts in
-    let w_n143 : ℕ = both w_is_second w_jsr in
-    let w_n144 : ℕ = both w_is_second w_jump_at in
-    let w_n146 : ℕ = both w_is_pull w_rti in
-    let w_n149 : ℕ = none w_n43 in
-    let w_n95 : ℕ = both w_n94 w_n149 in
-    let w_n155 : ℕ = none w_pla in
-    let w_pulls_flags : ℕ = both w_is_pull w_n155 in
-    let w_n160 : ℕ = none w_rti in
-    let w_n134 : ℕ = both w_is_pull w_n160 in
-    let w_n162 : ℕ = either w_n16 w_n17 in
-    let w_odd_mode : ℕ = either w_n162 w_n18 in
-    let w_n147 : ℕ = none w_odd_mode in
-    let w_load_y : ℕ = both w_n92 w_n147 in
-    let w_n148 : ℕ = none w_odd_mode in
-    let w_load_x : ℕ = both w_n93 w_n148 in
-    let w_n163 : ℕ = either w_n22 w_n23 in
-    let w_compare_y : ℕ = either w_n163 w_n24 in
-    let w_n164 : ℕ = either w_n25 w_n26 in
-    let w_compare_x : ℕ = either w_n164 w_n27 in
-    let w_n165 : ℕ = either w_compare_y w_compare_x in
-    let w_compare : ℕ = either w_n165 w_compare_a in
-    let w_test : ℕ = either w_n29 w_n30 in
+    let w_branch : ℕ = both w_group0 (eq (part 2 3 w_op) 4) in
+    let w_load_a : ℕ = both w_group1 (eq (part 5 3 w_op) 5) in
+    let w_or_a : ℕ = both w_group1 (none (part 5 3 w_op)) in
+    let w_and_a : ℕ = both w_group1 (eq (part 5 3 w_op) 1) in
+    let w_xor_a : ℕ = both w_group1 (eq (part 5 3 w_op) 2) in
+    let w_adc : ℕ = both w_group1 (eq (part 5 3 w_op) 3) in
+    let w_sbc : ℕ = both w_group1 (eq (part 5 3 w_op) 7) in
+    let w_pulls_flags : ℕ = both w_is_pull (none w_pla) in
+    let w_odd_mode : ℕ = either (either (eq (part 2 3 w_op) 2) (eq (part 2 3 w_op) 4)) (eq (part 2 3 w_op) 6) in
+    let w_load_y : ℕ = both (both w_group0 (eq (part 5 3 w_op) 5)) (none w_odd_mode) in
+    let w_load_x : ℕ = both (both w_group2 (eq (part 5 3 w_op) 5)) (none w_odd_mode) in
+    let w_compare_y : ℕ = either (either (eq w_op 192) (eq w_op 196)) (eq w_op 204) in
+    let w_compare_x : ℕ = either (either (eq w_op 224) (eq w_op 228)) (eq w_op 236) in
+    let w_compare : ℕ = either (either w_compare_y w_compare_x) (both w_group1 (eq (part 5 3 w_op) 6)) in
+    let w_test : ℕ = either (eq w_op 36) (eq w_op 44) in
     let w_sums : ℕ = either w_adc w_sbc in
-    let w_n166 : ℕ = either w_load_a w_load_x in
-    let w_n167 : ℕ = either w_n166 w_load_y in
-    let w_n168 : ℕ = either w_n167 w_compare in
-    let w_n169 : ℕ = either w_n168 w_test in
-    let w_n170 : ℕ = either w_n169 w_or_a in
-    let w_n171 : ℕ = either w_n170 w_and_a in
-    let w_n172 : ℕ = either w_n171 w_xor_a in
-    let w_takes : ℕ = either w_n172 w_sums in
-    let w_n173 : ℕ = either w_n36 w_n37 in
-    let w_n174 : ℕ = either w_n173 w_n38 in
-    let w_n175 : ℕ = either w_n174 w_n39 in
-    let w_n176 : ℕ = either w_n175 w_n40 in
-    let w_n177 : ℕ = either w_n176 w_n41 in
-    let w_stores : ℕ = either w_n177 w_n95 in
-    let w_n181 : ℕ = either w_n54 w_n55 in
-    let w_n182 : ℕ = either w_n181 w_n56 in
-    let w_n183 : ℕ = either w_n182 w_n57 in
-    let w_n98 : ℕ = both w_group2 w_n183 in
-    let w_n184 : ℕ = either w_n58 w_n59 in
-    let w_n151 : ℕ = none w_n184 in
-    let w_changes : ℕ = both w_n98 w_n151 in
-    let w_n145 : ℕ = both w_is_data w_changes in
-    let w_n159 : ℕ = none w_changes in
-    let w_n132 : ℕ = both w_is_data w_n159 in
-    let w_n185 : ℕ = either w_takes w_stores in
-    let w_named : ℕ = either w_n185 w_changes in
-    let w_zero_page : ℕ = both w_named w_n68 in
-    let w_absolute : ℕ = both w_named w_n69 in
-    let w_n99 : ℕ = both w_named w_group1 in
-    let w_indirect_x : ℕ = both w_n99 w_n70 in
-    let w_n100 : ℕ = both w_named w_group1 in
-    let w_indirect_y : ℕ = both w_n100 w_n71 in
-    let w_zero_page_i : ℕ = both w_named w_n72 in
-    let w_n186 : ℕ = either w_n73 w_n101 in
-    let w_absolute_i : ℕ = both w_named w_n186 in
-    let w_n126 : ℕ = both w_is_second w_absolute_i in
-    let w_n127 : ℕ = both w_is_second w_absolute_i in
-    let w_n187 : ℕ = either w_n76 w_n77 in
-    let w_n103 : ℕ = both w_group2 w_n187 in
-    let w_by_y : ℕ = either w_n102 w_n103 in
-    let w_n188 : ℕ = either w_tax w_tay in
-    let w_n189 : ℕ = either w_n188 w_txa in
-    let w_n190 : ℕ = either w_n189 w_tya in
-    let w_n191 : ℕ = either w_n190 w_tsx in
-    let w_transfer : ℕ = either w_n191 w_txs in
-    let w_n192 : ℕ = either w_inx w_iny in
-    let w_n193 : ℕ = either w_n192 w_dex in
-    let w_count : ℕ = either w_n193 w_dey in
-    let w_n194 : ℕ = either w_transfer w_count in
+    let w_takes : ℕ = either (either (either (either (either (either (either (either w_load_a w_load_x) w_load_y)
+    w_compare) w_test) w_or_a) w_and_a) w_xor_a) w_sums in
+    let w_changes : ℕ = both (both w_group2 (either (either (either (eq (part 2 3 w_op) 1) (eq (part 2 3 w_op) 3)) (eq
+    (part 2 3 w_op) 5)) (eq (part 2 3 w_op) 7))) (none (either (eq (part 5 3 w_op) 4) (eq (part 5 3 w_op) 5))) in
+    let w_named : ℕ = either (either w_takes (either (either (either (either (either (either (eq w_op 132) (eq w_op
+    148)) (eq w_op 140)) (eq w_op 134)) (eq w_op 150)) (eq w_op 142)) (both (both w_group1 (eq (part 5 3 w_op) 4)) (none
+    (eq (part 2 3 w_op) 2))))) w_changes in
+    let w_zero_page : ℕ = both w_named (eq (part 2 3 w_op) 1) in
+    let w_absolute : ℕ = both w_named (eq (part 2 3 w_op) 3) in
+    let w_indirect_x : ℕ = both (both w_named w_group1) (none (part 2 3 w_op)) in
+    let w_indirect_y : ℕ = both (both w_named w_group1) (eq (part 2 3 w_op) 4) in
+    let w_zero_page_i : ℕ = both w_named (eq (part 2 3 w_op) 5) in
+    let w_absolute_i : ℕ = both w_named (either (eq (part 2 3 w_op) 7) (both w_group1 (eq (part 2 3 w_op) 6))) in
     let w_n212 : ℕ = either w_tax w_tay in
     let w_n213 : ℕ = either w_txa w_txs in
-    let w_n216 : ℕ = either w_load_a w_and_a in
-    let w_n217 : ℕ = either w_n216 w_or_a in
-    let w_n218 : ℕ = either w_n217 w_xor_a in
-    let w_n219 : ℕ = either w_n218 w_sums in
-    let w_n220 : ℕ = either w_n219 w_txa in
-    let w_n221 : ℕ = either w_n220 w_tya in
-    let w_n223 : ℕ = either w_load_x w_tax in
-    let w_n224 : ℕ = either w_n223 w_tsx in
-    let w_n225 : ℕ = either w_n224 w_inx in
-    let w_to_x : ℕ = either w_n225 w_dex in
-    let w_n226 : ℕ = either w_load_y w_tay in
-    let w_n227 : ℕ = either w_n226 w_iny in
-    let w_to_y : ℕ = either w_n227 w_dey in
-    let w_n232 : ℕ = either w_test w_sums in
-    let w_to_v : ℕ = either w_n232 w_clv in
-    let w_n237 : ℕ = either w_clc w_sec in
-    let w_n239 : ℕ = either w_absolute w_absolute_i in
-    let w_n248 : ℕ = either w_cld w_sed in
-    let w_n249 : ℕ = either w_cli w_sei in
-    let w_n251 : ℕ = either w_zero_page_i w_indirect_x in
-    let w_n256 : ℕ = either w_pha w_php in
-    let w_n137 : ℕ = both w_sync w_n256 in
-    let w_n257 : ℕ = either w_pla w_plp in
-    let w_n258 : ℕ = either w_n257 w_rti in
-    let w_n138 : ℕ = both w_sync w_n258 in
-    let w_n259 : ℕ = either w_absolute w_absolute_i in
-    let w_n260 : ℕ = either w_n259 w_jmp in
-    let w_n261 : ℕ = either w_n260 w_jump_at in
-    let w_n262 : ℕ = either w_n261 w_jsr in
-    let w_n139 : ℕ = both w_is_first w_n262 in
-    let w_n263 : ℕ = either w_indirect_x w_indirect_y in
-    let w_n140 : ℕ = both w_is_first w_n263 in
-    let w_n264 : ℕ = either w_zero_page w_zero_page_i in
-    let w_n141 : ℕ = both w_is_first w_n264 in
-    let w_n265 : ℕ = either w_absolute w_absolute_i in
-    let w_n142 : ℕ = both w_is_second w_n265 in
-    let w_n266 : ℕ = lt (part 5 3 w_op) 4 in
-    let w_shift_a : ℕ = both w_n97 w_n266 in
+    let w_to_x : ℕ = either (either (either (either w_load_x w_tax) w_tsx) w_inx) w_dex in
+    let w_to_y : ℕ = either (either (either w_load_y w_tay) w_iny) w_dey in
+    let w_shift_a : ℕ = both (both w_group2 (eq (part 2 3 w_op) 2)) (lt (part 5 3 w_op) 4) in
     let w_alters : ℕ = either w_shift_a w_changes in
-    let w_asl : ℕ = both w_alters w_n60 in
-    let w_rol : ℕ = both w_alters w_n61 in
-    let w_lsr : ℕ = both w_alters w_n62 in
-    let w_ror : ℕ = both w_alters w_n63 in
-    let w_dec : ℕ = both w_alters w_n64 in
-    let w_inc : ℕ = both w_alters w_n65 in
-    let w_n195 : ℕ = either w_n194 w_shift_a in
-    let w_n196 : ℕ = either w_n195 w_clc in
-    let w_n197 : ℕ = either w_n196 w_sec in
-    let w_n198 : ℕ = either w_n197 w_cli in
-    let w_n199 : ℕ = either w_n198 w_sei in
-    let w_n200 : ℕ = either w_n199 w_clv in
-    let w_n201 : ℕ = either w_n200 w_cld in
-    let w_n202 : ℕ = either w_n201 w_sed in
-    let w_one_byte : ℕ = either w_n202 w_nop in
-    let w_n104 : ℕ = both w_sync w_one_byte in
-    let w_n128 : ℕ = both w_sync w_one_byte in
-    let w_n222 : ℕ = either w_n221 w_shift_a in
-    let w_to_a : ℕ = either w_n222 w_pla in
-    let w_n228 : ℕ = either w_to_a w_to_x in
-    let w_n229 : ℕ = either w_n228 w_to_y in
-    let w_n230 : ℕ = either w_n229 w_compare in
-    let w_n231 : ℕ = either w_n230 w_test in
-    let w_to_nz : ℕ = either w_n231 w_changes in
-    let w_n233 : ℕ = either w_inc w_dec in
-    let w_n153 : ℕ = none w_n233 in
-    let w_n108 : ℕ = both w_alters w_n153 in
-    let w_n234 : ℕ = either w_compare w_n108 in
-    let w_n235 : ℕ = either w_n234 w_sums in
-    let w_n236 : ℕ = either w_n235 w_clc in
-    let w_to_c : ℕ = either w_n236 w_sec in
-    let w_n238 : ℕ = either w_lsr w_ror in
-    let w_n337 : ℕ = mux w_group1 w_n66 w_n67 in
-    let w_immediate : ℕ = both w_takes w_n337 in
-    let w_n105 : ℕ = both w_is_first w_immediate in
-    let w_n129 : ℕ = both w_is_first w_immediate in
-    let w_n203 : ℕ = either w_immediate w_zero_page in
-    let w_n204 : ℕ = either w_n203 w_absolute in
-    let w_n205 : ℕ = either w_n204 w_indirect_x in
-    let w_n206 : ℕ = either w_n205 w_indirect_y in
-    let w_n207 : ℕ = either w_n206 w_zero_page_i in
-    let w_n208 : ℕ = either w_n207 w_absolute_i in
-    let w_n209 : ℕ = either w_n208 w_branch in
-    let w_n210 : ℕ = either w_n209 w_jmp in
-    let w_n211 : ℕ = either w_n210 w_jump_at in
-    let w_has_first : ℕ = either w_n211 w_jsr in
-    let w_n135 : ℕ = both w_sync w_has_first in
-    let w_n214 : ℕ = either w_n104 w_n105 in
-    let w_n215 : ℕ = either w_n214 w_n106 in
-    let w_acts : ℕ = either w_n215 w_n107 in
-    let w_n116 : ℕ = both w_acts w_to_a in
-    let w_n117 : ℕ = both w_acts w_to_x in
-    let w_n118 : ℕ = both w_acts w_to_y in
-    let w_n119 : ℕ = both w_acts w_txs in
-    let w_n120 : ℕ = both w_acts w_to_nz in
-    let w_n121 : ℕ = both w_acts w_to_v in
-    let w_n122 : ℕ = both w_acts w_n248 in
-    let w_n123 : ℕ = both w_acts w_n249 in
-    let w_n124 : ℕ = both w_acts w_to_nz in
-    let w_n125 : ℕ = both w_acts w_to_c in
-    let w_n302 : ℕ = mux w_n123 w_sei w_n301 in
-    let n302_in : w_n302 < 2 = mux_in w_n123 w_sei w_n301 2 sei_in n301_in in
-    let w_n303 : ℕ = mux w_pulls_flags (part 2 1 pins.din) w_n302 in
-    let n303_in : w_n303 < 2 = mux_in w_pulls_flags (part 2 1 pins.din) w_n302 2 (mod_in (pins.din / 4) 2 (lit< tt)) n302_in in
-    let w_n304 : ℕ = mux pins.step w_n303 cells.i in
-    let n304_in : w_n304 < 2 = mux_in pins.step w_n303 cells.i 2 n303_in fits.i in
-    let w_n305 : ℕ = mux pins.reset cells.i w_n304 in
-    let n305_in : w_n305 < 2 = mux_in pins.reset cells.i w_n304 2 fits.i n304_in in
-    let w_n306 : ℕ = mux w_n122 w_sed cells.d in
-    let n306_in : w_n306 < 2 = mux_in w_n122 w_sed cells.d 2 sed_in fits.d in
-    let w_n307 : ℕ = mux w_pulls_flags (part 3 1 pins.din) w_n306 in
-    let n307_in : w_n307 < 2 = mux_in w_pulls_flags (part 3 1 pins.din) w_n306 2 (mod_in (pins.din / 8) 2 (lit< tt)) n306_in in
-    let w_n308 : ℕ = mux pins.step w_n307 cells.d in
-    let n308_in : w_n308 < 2 = mux_in pins.step w_n307 cells.d 2 n307_in fits.d in
-    let w_n309 : ℕ = mux pins.reset cells.d w_n308 in
-    let n309_in : w_n309 < 2 = mux_in pins.reset cells.d w_n308 2 fits.d n308_in in
-    let w_index : ℕ = mux w_by_y cells.y cells.x in
-    let w_indexed : ℕ = add 16 (joined 8 cells.low pins.din) w_index in
-    let indexed_in : w_indexed < 65536 = mod_in _ 65536 (lit< tt) in
-    let w_n11 : ℕ = add 8 pins.din w_index in
-    let n11_in : w_n11 < 256 = mod_in _ 256 (lit< tt) in
-    let w_addend : ℕ = mux w_sbc w_n335 pins.din in
-    let w_n1 : ℕ = add 9 cells.a w_addend in
-    let w_sum : ℕ = add 9 w_n1 cells.c in
-    let sum_in : w_sum < 512 = mod_in _ 512 (lit< tt) in
-    let w_n2 : ℕ = add 5 (part 0 4 cells.a) (part 0 4 w_addend) in
-    let w_lower : ℕ = add 5 w_n2 cells.c in
-    let w_lower_6 : ℕ = add 4 (part 0 4 w_lower) 6 in
-    let w_lower_10 : ℕ = add 4 (part 0 4 w_lower) 10 in
-    let w_upper : ℕ = add 5 (part 4 4 cells.a) (part 4 4 w_addend) in
-    let w_n78 : ℕ = eq (part 7 1 cells.a) (part 7 1 w_addend) in
-    let w_n86 : ℕ = ge w_lower 10 in
-    let w_n87 : ℕ = ge w_lower 16 in
-    let w_carried : ℕ = mux w_n86 (joined 4 w_lower_6 1) w_lower in
-    let w_borrowed : ℕ = mux w_n87 w_lower w_lower_10 in
-    let w_n338 : ℕ = mux w_sbc w_borrowed w_carried in
-    let w_digits : ℕ = add 9 (joined 4 0 w_upper) w_n338 in
-    let digits_in : w_digits < 512 = mod_in _ 512 (lit< tt) in
-    let w_digits_96 : ℕ = add 8 (part 0 8 w_digits) 96 in
-    let digits_96_in : w_digits_96 < 256 = mod_in _ 256 (lit< tt) in
-    let w_digits_160 : ℕ = add 8 (part 0 8 w_digits) 160 in
-    let digits_160_in : w_digits_160 < 256 = mod_in _ 256 (lit< tt) in
+    let w_asl : ℕ = both w_alters (none (part 5 3 w_op)) in
+    let w_rol : ℕ = both w_alters (eq (part 5 3 w_op) 1) in
+    let w_lsr : ℕ = both w_alters (eq (part 5 3 w_op) 2) in
+    let w_ror : ℕ = both w_alters (eq (part 5 3 w_op) 3) in
+    let w_dec : ℕ = both w_alters (eq (part 5 3 w_op) 6) in
+    let w_inc : ℕ = both w_alters (eq (part 5 3 w_op) 7) in
+    let w_one_byte : ℕ = either (either (either (either (either (either (either (either (either (either (either (either
+    (either (either (either w_tax w_tay) w_txa) w_tya) w_tsx) w_txs) (either (either (either w_inx w_iny) w_dex) w_dey))
+    w_shift_a) w_clc) w_sec) w_cli) w_sei) w_clv) w_cld) w_sed) (eq w_op 234) in
+    let w_to_a : ℕ = either (either (either (either (either (either (either (either w_load_a w_and_a) w_or_a) w_xor_a)
+    w_sums) w_txa) w_tya) w_shift_a) w_pla in
+    let w_to_nz : ℕ = either (either (either (either (either w_to_a w_to_x) w_to_y) w_compare) w_test) w_changes in
+    let w_immediate : ℕ = both w_takes (mux w_group1 (eq (part 2 3 w_op) 2) (none (part 2 3 w_op))) in
+    let w_acts : ℕ = either (either (either (both w_sync w_one_byte) (both w_is_first w_immediate)) (both w_is_data
+    (none w_store))) (both w_is_pull w_pla) in
+    let w_addend : ℕ = mux w_sbc (sub 8 255 pins.din) pins.din in
+    let w_sum : ℕ = add 9 (add 9 cells.a w_addend) cells.c in
+    let w_lower : ℕ = add 5 (add 5 (part 0 4 cells.a) (part 0 4 w_addend)) cells.c in
+    let w_digits : ℕ = add 9 (joined 4 0 (add 5 (part 4 4 cells.a) (part 4 4 w_addend))) (mux w_sbc (mux (ge w_lower 16)
+    w_lower (add 4 (part 0 4 w_lower) 10)) (mux (ge w_lower 10) (joined 4 (add 4 (part 0 4 w_lower) 6) 1) w_lower)) in
     let w_over : ℕ = ge w_digits 160 in
-    let over_in : w_over < 2 = bit_in (nat_le 160 w_digits) in
-    let w_n339 : ℕ = mux w_over w_digits_96 (part 0 8 w_digits) in
-    let n339_in : w_n339 < 256 = mux_in w_over w_digits_96 (part 0 8 w_digits) 256 digits_96_in (mod_in (w_digits / 1) 256 (lit< tt)) in
-    let w_n340 : ℕ = mux (part 8 1 w_sum) (part 0 8 w_digits) w_digits_160 in
-    let n340_in : w_n340 < 256 = mux_in (part 8 1 w_sum) (part 0 8 w_digits) w_digits_160 256 (mod_in (w_digits / 1) 256 (lit< tt)) digits_160_in in
-    let w_decimal : ℕ = mux w_adc w_n339 w_n340 in
-    let decimal_in : w_decimal < 256 = mux_in w_adc w_n339 w_n340 256 n339_in n340_in in
-    let w_n341 : ℕ = mux w_compare_x cells.x cells.a in
-    let w_compared : ℕ = mux w_compare_y cells.y w_n341 in
-    let w_n89 : ℕ = ge w_compared pins.din in
-    let n89_in : w_n89 < 2 = bit_in (nat_le pins.din w_compared) in
-    let w_n336 : ℕ = sub 8 w_compared pins.din in
-    let n336_in : w_n336 < 256 = mod_in _ 256 (lit< tt) in
+    let w_compared : ℕ = mux w_compare_y cells.y (mux w_compare_x cells.x cells.a) in
     let w_old : ℕ = mux w_shift_a cells.a pins.din in
-    let old_in : w_old < 256 = mux_in w_shift_a cells.a pins.din 256 fits.a din_in in
     let w_doubled : ℕ = add 8 w_old w_old in
-    let doubled_in : w_doubled < 256 = mod_in _ 256 (lit< tt) in
-    let w_n3 : ℕ = add 8 w_doubled cells.c in
-    let n3_in : w_n3 < 256 = mod_in _ 256 (lit< tt) in
-    let w_n90 : ℕ = ge w_old 128 in
-    let n90_in : w_n90 < 2 = bit_in (nat_le 128 w_old) in
-    let w_n344 : ℕ = mux cells.d w_decimal (part 0 8 w_sum) in
-    let n344_in : w_n344 < 256 = mux_in cells.d w_decimal (part 0 8 w_sum) 256 decimal_in (mod_in (w_sum / 1) 256 (lit< tt)) in
-    let w_n360 : ℕ = mux w_dey w_n9 pins.din in
-    let n360_in : w_n360 < 256 = mux_in w_dey w_n9 pins.din 256 n9_in din_in in
-    let w_n359 : ℕ = mux w_dex w_n8 w_n360 in
-    let n359_in : w_n359 < 256 = mux_in w_dex w_n8 w_n360 256 n8_in n360_in in
-    let w_n358 : ℕ = mux w_iny w_n7 w_n359 in
-    let n358_in : w_n358 < 256 = mux_in w_iny w_n7 w_n359 256 n7_in n359_in in
-    let w_n357 : ℕ = mux w_inx w_n6 w_n358 in
-    let n357_in : w_n357 < 256 = mux_in w_inx w_n6 w_n358 256 n6_in n358_in in
-    let w_n356 : ℕ = mux w_tsx cells.s w_n357 in
-    let n356_in : w_n356 < 256 = mux_in w_tsx cells.s w_n357 256 fits.s n357_in in
-    let w_n355 : ℕ = mux w_tya cells.y w_n356 in
-    let n355_in : w_n355 < 256 = mux_in w_tya cells.y w_n356 256 fits.y n356_in in
-    let w_n354 : ℕ = mux w_n213 cells.x w_n355 in
-    let n354_in : w_n354 < 256 = mux_in w_n213 cells.x w_n355 256 fits.x n355_in in
-    let w_n353 : ℕ = mux w_n212 cells.a w_n354 in
-    let n353_in : w_n353 < 256 = mux_in w_n212 cells.a w_n354 256 fits.a n354_in in
-    let w_n352 : ℕ = mux w_dec w_n5 w_n353 in
-    let n352_in : w_n352 < 256 = mux_in w_dec w_n5 w_n353 256 n5_in n353_in in
-    let w_n351 : ℕ = mux w_inc w_n4 w_n352 in
-    let n351_in : w_n351 < 256 = mux_in w_inc w_n4 w_n352 256 n4_in n352_in in
-    let w_n350 : ℕ = mux w_ror (joined 7 (part 1 7 w_old) cells.c) w_n351 in
-    let n350_in : w_n350 < 256 = mux_in w_ror (joined 7 (part 1 7 w_old) cells.c) w_n351 256 (let l14 : (part 1 7 w_old) < 128 = mod_in (w_old / 2) 128 (lit< tt) in let h14 : cells.c < 2 = fits.c in let j14 : joined 7 (part 1 7 w_old) cells.c < 256 = omega arith in j14) n351_in in
-    let w_n349 : ℕ = mux w_lsr (part 1 7 w_old) w_n350 in
-    let n349_in : w_n349 < 256 = mux_in w_lsr (part 1 7 w_old) w_n350 256 (wider (part 1 7 w_old) 128 256 (mod_in (w_old / 2) 128 (lit< tt)) (omega arith)) n350_in in
-    let w_n348 : ℕ = mux w_rol w_n3 w_n349 in
-    let n348_in : w_n348 < 256 = mux_in w_rol w_n3 w_n349 256 n3_in n349_in in
-    let w_n347 : ℕ = mux w_asl w_doubled w_n348 in
-    let n347_in : w_n347 < 256 = mux_in w_asl w_doubled w_n348 256 doubled_in n348_in in
-    let w_n346 : ℕ = mux w_compare w_n336 w_n347 in
-    let n346_in : w_n346 < 256 = mux_in w_compare w_n336 w_n347 256 n336_in n347_in in
-    let w_n345 : ℕ = mux w_sums w_n344 w_n346 in
-    let n345_in : w_n345 < 256 = mux_in w_sums w_n344 w_n346 256 n344_in n346_in in
-    let w_told : ℕ = mux w_n109 w_digits w_sum in
-    let w_n79 : ℕ = eq (part 7 1 cells.a) (part 7 1 w_told) in
-    let w_n154 : ℕ = none w_n79 in
-    let w_n110 : ℕ = both w_n78 w_n154 in
-    let n110_in : w_n110 < 2 = both_in w_n78 w_n154 in
-    let w_n365 : ℕ = mux w_clv 0 w_n110 in
-    let n365_in : w_n365 < 2 = mux_in w_clv 0 w_n110 2 (lit< tt) n110_in in
-    let w_new_v : ℕ = mux w_test w_n88 w_n365 in
-    let new_v_in : w_new_v < 2 = mux_in w_test w_n88 w_n365 2 n88_in n365_in in
-    let w_n310 : ℕ = mux w_n121 w_new_v cells.v in
-    let n310_in : w_n310 < 2 = mux_in w_n121 w_new_v cells.v 2 new_v_in fits.v in
-    let w_n311 : ℕ = mux w_pulls_flags (part 6 1 pins.din) w_n310 in
-    let n311_in : w_n311 < 2 = mux_in w_pulls_flags (part 6 1 pins.din) w_n310 2 (mod_in (pins.din / 64) 2 (lit< tt)) n310_in in
-    let w_n312 : ℕ = mux pins.step w_n311 cells.v in
-    let n312_in : w_n312 < 2 = mux_in pins.step w_n311 cells.v 2 n311_in fits.v in
-    let w_n313 : ℕ = mux pins.reset cells.v w_n312 in
-    let n313_in : w_n313 < 2 = mux_in pins.reset cells.v w_n312 2 fits.v n312_in in
-    let w_n366 : ℕ = mux w_n111 w_over (part 8 1 w_sum) in
-    let n366_in : w_n366 < 2 = mux_in w_n111 w_over (part 8 1 w_sum) 2 over_in (mod_in (w_sum / 256) 2 (lit< tt)) in
-    let w_n369 : ℕ = mux w_n238 (part 0 1 w_old) w_n90 in
-    let n369_in : w_n369 < 2 = mux_in w_n238 (part 0 1 w_old) w_n90 2 (mod_in (w_old / 1) 2 (lit< tt)) n90_in in
-    let w_n368 : ℕ = mux w_n237 w_sec w_n369 in
-    let n368_in : w_n368 < 2 = mux_in w_n237 w_sec w_n369 2 sec_in n369_in in
-    let w_n367 : ℕ = mux w_sums w_n366 w_n368 in
-    let n367_in : w_n367 < 2 = mux_in w_sums w_n366 w_n368 2 n366_in n368_in in
-    let w_new_c : ℕ = mux w_compare w_n89 w_n367 in
-    let new_c_in : w_new_c < 2 = mux_in w_compare w_n89 w_n367 2 n89_in n367_in in
-    let w_n293 : ℕ = mux w_n125 w_new_c cells.c in
-    let n293_in : w_n293 < 2 = mux_in w_n125 w_new_c cells.c 2 new_c_in fits.c in
-    let w_n294 : ℕ = mux w_pulls_flags (part 0 1 pins.din) w_n293 in
-    let n294_in : w_n294 < 2 = mux_in w_pulls_flags (part 0 1 pins.din) w_n293 2 (mod_in (pins.din / 1) 2 (lit< tt)) n293_in in
-    let w_n295 : ℕ = mux pins.step w_n294 cells.c in
-    let n295_in : w_n295 < 2 = mux_in pins.step w_n294 cells.c 2 n294_in fits.c in
-    let w_n296 : ℕ = mux pins.reset cells.c w_n295 in
-    let n296_in : w_n296 < 2 = mux_in pins.reset cells.c w_n295 2 fits.c n295_in in
-    let w_after : ℕ = mux w_n239 w_pc3 w_pc2 in
-    let after_in : w_after < 65536 = mux_in w_n239 w_pc3 w_pc2 65536 pc3_in pc2_in in
-    let w_n371 : ℕ = mux w_n82 cells.c cells.z in
-    let w_n372 : ℕ = mux w_n81 cells.v w_n371 in
-    let w_flag : ℕ = mux w_n80 cells.n w_n372 in
-    let w_taken : ℕ = eq w_flag (part 5 1 w_op) in
-    let w_n393 : ℕ = mux w_n251 w_n11 pins.din in
-    let n393_in : w_n393 < 256 = mux_in w_n251 w_n11 pins.din 256 n11_in din_in in
-    let w_n394 : ℕ = mux w_indirect_y (part 0 8 w_pointed) cells.high in
-    let n394_in : w_n394 < 256 = mux_in w_indirect_y (part 0 8 w_pointed) cells.high 256 (mod_in (w_pointed / 1) 256 (lit< tt)) fits.high in
-    let w_n283 : ℕ = mux w_is_point_high w_n394 w_n282 in
-    let n283_in : w_n283 < 256 = mux_in w_is_point_high w_n394 w_n282 256 n394_in n282_in in
-    let w_n284 : ℕ = mux w_n126 (part 0 8 w_indexed) w_n283 in
-    let n284_in : w_n284 < 256 = mux_in w_n126 (part 0 8 w_indexed) w_n283 256 (mod_in (w_indexed / 1) 256 (lit< tt)) n283_in in
-    let w_n285 : ℕ = mux w_is_first w_n393 w_n284 in
-    let n285_in : w_n285 < 256 = mux_in w_is_first w_n393 w_n284 256 n393_in n284_in in
-    let w_n286 : ℕ = mux pins.step w_n285 cells.low in
-    let n286_in : w_n286 < 256 = mux_in pins.step w_n285 cells.low 256 n285_in fits.low in
-    let w_n287 : ℕ = mux pins.reset cells.low w_n286 in
-    let n287_in : w_n287 < 256 = mux_in pins.reset cells.low w_n286 256 fits.low n286_in in
-    let w_n395 : ℕ = mux w_indirect_y (part 8 8 w_pointed) pins.din in
-    let n395_in : w_n395 < 256 = mux_in w_indirect_y (part 8 8 w_pointed) pins.din 256 (mod_in (w_pointed / 256) 256 (lit< tt)) din_in in
-    let w_n276 : ℕ = mux w_is_point_high w_n395 cells.high in
-    let n276_in : w_n276 < 256 = mux_in w_is_point_high w_n395 cells.high 256 n395_in fits.high in
-    let w_n277 : ℕ = mux w_n254 pins.din w_n276 in
-    let n277_in : w_n277 < 256 = mux_in w_n254 pins.din w_n276 256 din_in n276_in in
-    let w_n278 : ℕ = mux w_n127 (part 8 8 w_indexed) w_n277 in
-    let n278_in : w_n278 < 256 = mux_in w_n127 (part 8 8 w_indexed) w_n277 256 (mod_in (w_indexed / 256) 256 (lit< tt)) n277_in in
-    let w_n279 : ℕ = mux w_is_first 0 w_n278 in
-    let n279_in : w_n279 < 256 = mux_in w_is_first 0 w_n278 256 (lit< tt) n278_in in
-    let w_n280 : ℕ = mux pins.step w_n279 cells.high in
-    let n280_in : w_n280 < 256 = mux_in pins.step w_n279 cells.high 256 n279_in fits.high in
-    let w_n281 : ℕ = mux pins.reset cells.high w_n280 in
-    let n281_in : w_n281 < 256 = mux_in pins.reset cells.high w_n280 256 fits.high n280_in in
-    let w_n398 : ℕ = mux w_taken w_target w_pc2 in
-    let n398_in : w_n398 < 65536 = mux_in w_taken w_target w_pc2 65536 target_in pc2_in in
-    let w_n408 : ℕ = mux w_n134 w_pc1 w_n409 in
-    let n408_in : w_n408 < 65536 = mux_in w_n134 w_pc1 w_n409 65536 pc1_in n409_in in
-    let w_n407 : ℕ = mux w_is_push w_pc1 w_n408 in
-    let n407_in : w_n407 < 65536 = mux_in w_is_push w_pc1 w_n408 65536 pc1_in n408_in in
-    let w_n406 : ℕ = mux w_is_jump_high (joined 8 cells.back pins.din) w_n407 in
-    let n406_in : w_n406 < 65536 = mux_in w_is_jump_high (joined 8 cells.back pins.din) w_n407 65536 (let l15 : cells.back < 256 = fits.back in let h15 : pins.din < 256 = din_in in let j15 : joined 8 cells.back pins.din < 65536 = omega arith in j15) n407_in in
-    let w_n405 : ℕ = mux w_is_pull_high w_n12 w_n406 in
-    let n405_in : w_n405 < 65536 = mux_in w_is_pull_high w_n12 w_n406 65536 n12_in n406_in in
-    let w_n404 : ℕ = mux w_n133 (joined 8 cells.low pins.din) w_n405 in
-    let n404_in : w_n404 < 65536 = mux_in w_n133 (joined 8 cells.low pins.din) w_n405 65536 (let l16 : cells.low < 256 = fits.low in let h16 : pins.din < 256 = din_in in let j16 : joined 8 cells.low pins.din < 65536 = omega arith in j16) n405_in in
-    let w_n403 : ℕ = mux w_is_call_low (joined 8 cells.low cells.high) w_n404 in
-    let n403_in : w_n403 < 65536 = mux_in w_is_call_low (joined 8 cells.low cells.high) w_n404 65536 (let l17 : cells.low < 256 = fits.low in let h17 : cells.high < 256 = fits.high in let j17 : joined 8 cells.low cells.high < 65536 = omega arith in j17) n404_in in
-    let w_n402 : ℕ = mux w_is_back w_after w_n403 in
-    let n402_in : w_n402 < 65536 = mux_in w_is_back w_after w_n403 65536 after_in n403_in in
-    let w_n401 : ℕ = mux w_n132 w_after w_n402 in
-    let n401_in : w_n401 < 65536 = mux_in w_n132 w_after w_n402 65536 after_in n402_in in
-    let w_n400 : ℕ = mux w_n131 (joined 8 cells.low pins.din) w_n401 in
-    let n400_in : w_n400 < 65536 = mux_in w_n131 (joined 8 cells.low pins.din) w_n401 65536 (let l18 : cells.low < 256 = fits.low in let h18 : pins.din < 256 = din_in in let j18 : joined 8 cells.low pins.din < 65536 = omega arith in j18) n401_in in
-    let w_n399 : ℕ = mux w_n130 w_n398 w_n400 in
-    let n399_in : w_n399 < 65536 = mux_in w_n130 w_n398 w_n400 65536 n398_in n400_in in
-    let w_n397 : ℕ = mux w_n129 w_pc2 w_n399 in
-    let n397_in : w_n397 < 65536 = mux_in w_n129 w_pc2 w_n399 65536 pc2_in n399_in in
-    let w_n396 : ℕ = mux w_n128 w_pc1 w_n397 in
-    let n396_in : w_n396 < 65536 = mux_in w_n128 w_pc1 w_n397 65536 pc1_in n397_in in
-    let w_n318 : ℕ = mux pins.step w_n396 cells.pc in
-    let n318_in : w_n318 < 65536 = mux_in pins.step w_n396 cells.pc 65536 n396_in fits.pc in
-    let w_n319 : ℕ = mux pins.reset cells.pc w_n318 in
-    let n319_in : w_n319 < 65536 = mux_in pins.reset cells.pc w_n318 65536 fits.pc n318_in in
-    let w_n427 : ℕ = mux w_n146 11 w_n428 in
-    let n427_in : w_n427 < 21 = mux_in w_n146 11 w_n428 21 (lit< tt) n428_in in
-    let w_n426 : ℕ = mux w_is_pull_low 12 w_n427 in
-    let n426_in : w_n426 < 21 = mux_in w_is_pull_low 12 w_n427 21 (lit< tt) n427_in in
-    let w_n425 : ℕ = mux w_is_call_high 10 w_n426 in
-    let n425_in : w_n425 < 21 = mux_in w_is_call_high 10 w_n426 21 (lit< tt) n426_in in
-    let w_n424 : ℕ = mux w_n145 8 w_n425 in
-    let n424_in : w_n424 < 21 = mux_in w_n145 8 w_n425 21 (lit< tt) n425_in in
-    let w_n423 : ℕ = mux w_is_point_high 7 w_n424 in
-    let n423_in : w_n423 < 21 = mux_in w_is_point_high 7 w_n424 21 (lit< tt) n424_in in
-    let w_n422 : ℕ = mux w_is_point_low 6 w_n423 in
-    let n422_in : w_n422 < 21 = mux_in w_is_point_low 6 w_n423 21 (lit< tt) n423_in in
-    let w_n421 : ℕ = mux w_is_jump_low 18 w_n422 in
-    let n421_in : w_n421 < 21 = mux_in w_is_jump_low 18 w_n422 21 (lit< tt) n422_in in
-    let w_n420 : ℕ = mux w_n144 17 w_n421 in
-    let n420_in : w_n420 < 21 = mux_in w_n144 17 w_n421 21 (lit< tt) n421_in in
-    let w_n419 : ℕ = mux w_n143 9 w_n420 in
-    let n419_in : w_n419 < 21 = mux_in w_n143 9 w_n420 21 (lit< tt) n420_in in
-    let w_n418 : ℕ = mux w_n142 7 w_n419 in
-    let n418_in : w_n418 < 21 = mux_in w_n142 7 w_n419 21 (lit< tt) n419_in in
-    let w_n417 : ℕ = mux w_n141 7 w_n418 in
-    let n417_in : w_n417 < 21 = mux_in w_n141 7 w_n418 21 (lit< tt) n418_in in
-    let w_n416 : ℕ = mux w_n140 5 w_n417 in
-    let n416_in : w_n416 < 21 = mux_in w_n140 5 w_n417 21 (lit< tt) n417_in in
-    let w_n415 : ℕ = mux w_n139 4 w_n416 in
-    let n415_in : w_n415 < 21 = mux_in w_n139 4 w_n416 21 (lit< tt) n416_in in
-    let w_n414 : ℕ = mux w_n138 20 w_n415 in
-    let n414_in : w_n414 < 21 = mux_in w_n138 20 w_n415 21 (lit< tt) n415_in in
-    let w_n413 : ℕ = mux w_n137 19 w_n414 in
-    let n413_in : w_n413 < 21 = mux_in w_n137 19 w_n414 21 (lit< tt) n414_in in
-    let w_n412 : ℕ = mux w_n136 11 w_n413 in
-    let n412_in : w_n412 < 21 = mux_in w_n136 11 w_n413 21 (lit< tt) n413_in in
-    let w_n411 : ℕ = mux w_n135 3 w_n412 in
-    let n411_in : w_n411 < 21 = mux_in w_n135 3 w_n412 21 (lit< tt) n412_in in
-    let w_n410 : ℕ = mux w_is_nmi_high 13 w_n411 in
-    let n410_in : w_n410 < 21 = mux_in w_is_nmi_high 13 w_n411 21 (lit< tt) n411_in in
-    let w_n291 : ℕ = mux pins.step w_n410 cells.state in
-    let n291_in : w_n291 < 21 = mux_in pins.step w_n410 cells.state 21 n410_in fits.state in
-    let w_n292 : ℕ = mux pins.reset 0 w_n291 in
-    let n292_in : w_n292 < 21 = mux_in pins.reset 0 w_n291 21 (lit< tt) n291_in in
-    let w_n432 : ℕ = bit_xor cells.a pins.din in
-    let n432_in : w_n432 < 256 = xor_in cells.a pins.din fits.a din_in in
-    let w_n343 : ℕ = mux w_xor_a w_n432 w_n345 in
-    let n343_in : w_n343 < 256 = mux_in w_xor_a w_n432 w_n345 256 n432_in n345_in in
-    let w_n342 : ℕ = mux w_or_a w_n267 w_n343 in
-    let n342_in : w_n342 < 256 = mux_in w_or_a w_n267 w_n343 256 n267_in n343_in in
-    let w_result : ℕ = mux w_and_a w_n13 w_n342 in
-    let result_in : w_result < 256 = mux_in w_and_a w_n13 w_n342 256 n13_in n342_in in
-    let w_n273 : ℕ = mux w_is_data w_result w_n272 in
-    let n273_in : w_n273 < 256 = mux_in w_is_data w_result w_n272 256 result_in n272_in in
-    let w_n274 : ℕ = mux pins.step w_n273 cells.back in
-    let n274_in : w_n274 < 256 = mux_in pins.step w_n273 cells.back 256 n273_in fits.back in
-    let w_n275 : ℕ = mux pins.reset cells.back w_n274 in
-    let n275_in : w_n275 < 256 = mux_in pins.reset cells.back w_n274 256 fits.back n274_in in
-    let w_n321 : ℕ = mux w_n119 w_result w_n320 in
-    let n321_in : w_n321 < 256 = mux_in w_n119 w_result w_n320 256 result_in n320_in in
-    let w_n322 : ℕ = mux w_pulls w_s1 w_n321 in
-    let n322_in : w_n322 < 256 = mux_in w_pulls w_s1 w_n321 256 s1_in n321_in in
-    let w_n323 : ℕ = mux w_pushes w_n10 w_n322 in
-    let n323_in : w_n323 < 256 = mux_in w_pushes w_n10 w_n322 256 n10_in n322_in in
-    let w_n324 : ℕ = mux pins.step w_n323 cells.s in
-    let n324_in : w_n324 < 256 = mux_in pins.step w_n323 cells.s 256 n323_in fits.s in
-    let w_n325 : ℕ = mux pins.reset cells.s w_n324 in
-    let n325_in : w_n325 < 256 = mux_in pins.reset cells.s w_n324 256 fits.s n324_in in
-    let w_n326 : ℕ = mux w_n118 w_result cells.y in
-    let n326_in : w_n326 < 256 = mux_in w_n118 w_result cells.y 256 result_in fits.y in
-    let w_n327 : ℕ = mux pins.step w_n326 cells.y in
-    let n327_in : w_n327 < 256 = mux_in pins.step w_n326 cells.y 256 n326_in fits.y in
-    let w_n328 : ℕ = mux pins.reset cells.y w_n327 in
-    let n328_in : w_n328 < 256 = mux_in pins.reset cells.y w_n327 256 fits.y n327_in in
-    let w_n329 : ℕ = mux w_n117 w_result cells.x in
-    let n329_in : w_n329 < 256 = mux_in w_n117 w_result cells.x 256 result_in fits.x in
-    let w_n330 : ℕ = mux pins.step w_n329 cells.x in
-    let n330_in : w_n330 < 256 = mux_in pins.step w_n329 cells.x 256 n329_in fits.x in
-    let w_n331 : ℕ = mux pins.reset cells.x w_n330 in
-    let n331_in : w_n331 < 256 = mux_in pins.reset cells.x w_n330 256 fits.x n330_in in
-    let w_n332 : ℕ = mux w_n116 w_result cells.a in
-    let n332_in : w_n332 < 256 = mux_in w_n116 w_result cells.a 256 result_in fits.a in
-    let w_n333 : ℕ = mux pins.step w_n332 cells.a in
-    let n333_in : w_n333 < 256 = mux_in pins.step w_n332 cells.a 256 n332_in fits.a in
-    let w_n334 : ℕ = mux pins.reset cells.a w_n333 in
-    let n334_in : w_n334 < 256 = mux_in pins.reset cells.a w_n333 256 fits.a n333_in in
-    let w_n361 : ℕ = mux w_sums (part 0 8 w_sum) w_result in
-    let w_n362 : ℕ = mux w_test w_n14 w_n361 in
-    let w_new_z : ℕ = none w_n362 in
-    let new_z_in : w_new_z < 2 = none_in w_n362 in
-    let w_n297 : ℕ = mux w_n124 w_new_z cells.z in
-    let n297_in : w_n297 < 2 = mux_in w_n124 w_new_z cells.z 2 new_z_in fits.z in
-    let w_n298 : ℕ = mux w_pulls_flags (part 1 1 pins.din) w_n297 in
-    let n298_in : w_n298 < 2 = mux_in w_pulls_flags (part 1 1 pins.din) w_n297 2 (mod_in (pins.din / 2) 2 (lit< tt)) n297_in in
-    let w_n299 : ℕ = mux pins.step w_n298 cells.z in
-    let n299_in : w_n299 < 2 = mux_in pins.step w_n298 cells.z 2 n298_in fits.z in
-    let w_n300 : ℕ = mux pins.reset cells.z w_n299 in
-    let n300_in : w_n300 < 2 = mux_in pins.reset cells.z w_n299 2 fits.z n299_in in
-    let w_n363 : ℕ = mux w_sums (part 0 8 w_told) w_result in
-    let w_n364 : ℕ = mux w_test pins.din w_n363 in
-    let w_new_n : ℕ = ge w_n364 128 in
-    let new_n_in : w_new_n < 2 = bit_in (nat_le 128 w_n364) in
-    let w_n314 : ℕ = mux w_n120 w_new_n cells.n in
-    let n314_in : w_n314 < 2 = mux_in w_n120 w_new_n cells.n 2 new_n_in fits.n in
-    let w_n315 : ℕ = mux w_pulls_flags (part 7 1 pins.din) w_n314 in
-    let n315_in : w_n315 < 2 = mux_in w_pulls_flags (part 7 1 pins.din) w_n314 2 (mod_in (pins.din / 128) 2 (lit< tt)) n314_in in
-    let w_n316 : ℕ = mux pins.step w_n315 cells.n in
-    let n316_in : w_n316 < 2 = mux_in pins.step w_n315 cells.n 2 n315_in fits.n in
-    let w_n317 : ℕ = mux pins.reset cells.n w_n316 in
-    let n317_in : w_n317 < 2 = mux_in pins.reset cells.n w_n316 2 fits.n n316_in in (
+    let w_told : ℕ = mux (both w_adc cells.d) w_digits w_sum in
+    let w_result : ℕ = mux w_and_a (bit_and cells.a pins.din) (mux w_or_a (bit_or cells.a pins.din) (mux w_xor_a
+    (bit_xor cells.a pins.din) (mux w_sums (mux cells.d (mux w_adc (mux w_over (add 8 (part 0 8 w_digits) 96) (part 0 8
+    w_digits)) (mux (part 8 1 w_sum) (part 0 8 w_digits) (add 8 (part 0 8 w_digits) 160))) (part 0 8 w_sum)) (mux
+    w_compare (sub 8 w_compared pins.din) (mux w_asl w_doubled (mux w_rol (add 8 w_doubled cells.c) (mux w_lsr (part 1 7
+    w_old) (mux w_ror (joined 7 (part 1 7 w_old) cells.c) (mux w_inc (add 8 pins.din 1) (mux w_dec (add 8 pins.din 255)
+    (mux w_n212 cells.a (mux w_n213 cells.x (mux w_tya cells.y (mux w_tsx cells.s (mux w_inx (add 8 cells.x 1) (mux
+    w_iny (add 8 cells.y 1) (mux w_dex (add 8 cells.x 255) (mux w_dey (add 8 cells.y 255) pins.din)))))))))))))))))) in
+    let old_in = mux_in w_shift_a _ _ 256 fits.a din_in in
+    let after_in = mux_in (either w_absolute w_absolute_i) _ _ 65536 (mod_in _ 65536 (lit< tt)) (mod_in _ 65536 (lit<
+    tt)) in
+    let result_in = mux_in w_and_a _ _ 256 (and_in _ _ _ fits.a) (mux_in w_or_a _ _ 256 (or_in _ _ fits.a din_in)
+    (mux_in w_xor_a _ _ 256 (xor_in _ _ fits.a din_in) (mux_in w_sums _ _ 256 (mux_in cells.d _ _ 256 (mux_in w_adc _ _
+    256 (mux_in w_over _ _ 256 (mod_in _ 256 (lit< tt)) (mod_in _ 256 (lit< tt))) (mux_in (part 8 1 w_sum) _ _ 256
+    (mod_in _ 256 (lit< tt)) (mod_in _ 256 (lit< tt)))) (mod_in _ 256 (lit< tt))) (mux_in w_compare _ _ 256 (mod_in _
+    256 (lit< tt)) (mux_in w_asl _ _ 256 (mod_in _ 256 (lit< tt)) (mux_in w_rol _ _ 256 (mod_in _ 256 (lit< tt)) (mux_in
+    w_lsr _ _ 256 (wider _ 128 256 (mod_in _ 128 (lit< tt)) (lit≤ tt)) (mux_in w_ror _ _ 256 (joined_in 7 1 _ _ (mod_in
+    _ 128 (lit< tt)) fits.c) (mux_in w_inc _ _ 256 (mod_in _ 256 (lit< tt)) (mux_in w_dec _ _ 256 (mod_in _ 256 (lit<
+    tt)) (mux_in w_n212 _ _ 256 fits.a (mux_in w_n213 _ _ 256 fits.x (mux_in w_tya _ _ 256 fits.y (mux_in w_tsx _ _ 256
+    fits.s (mux_in w_inx _ _ 256 (mod_in _ 256 (lit< tt)) (mux_in w_iny _ _ 256 (mod_in _ 256 (lit< tt)) (mux_in w_dex _
+    _ 256 (mod_in _ 256 (lit< tt)) (mux_in w_dey _ _ 256 (mod_in _ 256 (lit< tt)) din_in)))))))))))))))))) in (
       record {
-        a = n334_in;
-        x = n331_in;
-        y = n328_in;
-        s = n325_in;
-        pc = n319_in;
-        n = n317_in;
-        v = n313_in;
-        d = n309_in;
-        i = n305_in;
-        z = n300_in;
-        c = n296_in;
-        state = n292_in;
-        ir = n290_in;
-        low = n287_in;
-        high = n281_in;
-        back = n275_in;
-        was = n271_in;
-        due = n269_in;
+        a = mux_in pins.reset _ _ 256 fits.a (mux_in pins.step _ _ 256 (mux_in (both w_acts w_to_a) _ _ 256 result_in
+            fits.a) fits.a);
+        x = mux_in pins.reset _ _ 256 fits.x (mux_in pins.step _ _ 256 (mux_in (both w_acts w_to_x) _ _ 256 result_in
+            fits.x) fits.x);
+        y = mux_in pins.reset _ _ 256 fits.y (mux_in pins.step _ _ 256 (mux_in (both w_acts w_to_y) _ _ 256 result_in
+            fits.y) fits.y);
+        s = mux_in pins.reset _ _ 256 fits.s (mux_in pins.step _ _ 256 (mux_in w_pushes _ _ 256 (mod_in _ 256 (lit< tt))
+            (mux_in w_pulls _ _ 256 (mod_in _ 256 (lit< tt)) (mux_in (both w_acts w_txs) _ _ 256 result_in (mux_in
+            w_is_reset_high 253 _ 256 (lit< tt) fits.s)))) fits.s);
+        pc = mux_in pins.reset _ _ 65536 fits.pc (mux_in pins.step _ _ 65536 (mux_in (both w_sync w_one_byte) _ _ 65536
+            (mod_in _ 65536 (lit< tt)) (mux_in (both w_is_first w_immediate) _ _ 65536 (mod_in _ 65536 (lit< tt))
+            (mux_in (both w_is_first w_branch) _ _ 65536 (mux_in (eq (mux (none (part 6 2 w_op)) cells.n (mux (eq (part
+            6 2 w_op) 1) cells.v (mux (eq (part 6 2 w_op) 2) cells.c cells.z))) (part 5 1 w_op)) _ _ 65536 (mod_in _
+            65536 (lit< tt)) (mod_in _ 65536 (lit< tt))) (mux_in (both w_is_second w_jmp) _ _ 65536 (joined_in 8 8 _ _
+            fits.low din_in) (mux_in (both w_is_data (none w_changes)) _ _ 65536 after_in (mux_in w_is_back _ _ 65536
+            after_in (mux_in w_is_call_low _ _ 65536 (joined_in 8 8 _ _ fits.low fits.high) (mux_in (both w_is_pull_high
+            w_rti) _ _ 65536 (joined_in 8 8 _ _ fits.low din_in) (mux_in w_is_pull_high _ _ 65536 (mod_in _ 65536 (lit<
+            tt)) (mux_in w_is_jump_high _ _ 65536 (joined_in 8 8 _ _ fits.back din_in) (mux_in w_is_push _ _ 65536
+            (mod_in _ 65536 (lit< tt)) (mux_in (both w_is_pull (none w_rti)) _ _ 65536 (mod_in _ 65536 (lit< tt))
+            (mux_in (either w_is_nmi_to_high w_is_reset_high) _ _ 65536 (joined_in 8 8 _ _ fits.low din_in)
+            fits.pc))))))))))))) fits.pc);
+        n = mux_in pins.reset _ _ 2 fits.n (mux_in pins.step _ _ 2 (mux_in w_pulls_flags _ _ 2 (mod_in _ 2 (lit< tt))
+            (mux_in (both w_acts w_to_nz) _ _ 2 (bit_in (nat_le 128 (mux w_test pins.din (mux w_sums (part 0 8 w_told)
+            w_result)))) fits.n)) fits.n);
+        v = mux_in pins.reset _ _ 2 fits.v (mux_in pins.step _ _ 2 (mux_in w_pulls_flags _ _ 2 (mod_in _ 2 (lit< tt))
+            (mux_in (both w_acts (either (either w_test w_sums) w_clv)) _ _ 2 (mux_in w_test _ _ 2 (bit_in (nat_le 64
+            (part 0 7 pins.din))) (mux_in w_clv 0 _ 2 (lit< tt) (both_in (eq (part 7 1 cells.a) (part 7 1 w_addend))
+            (none (eq (part 7 1 cells.a) (part 7 1 w_told)))))) fits.v)) fits.v);
+        d = mux_in pins.reset _ _ 2 fits.d (mux_in pins.step _ _ 2 (mux_in w_pulls_flags _ _ 2 (mod_in _ 2 (lit< tt))
+            (mux_in (both w_acts (either w_cld w_sed)) _ _ 2 (bit_in (nat_eq w_op 248)) fits.d)) fits.d);
+        i = mux_in pins.reset _ _ 2 fits.i (mux_in pins.step _ _ 2 (mux_in w_pulls_flags _ _ 2 (mod_in _ 2 (lit< tt))
+            (mux_in (both w_acts (either w_cli w_sei)) _ _ 2 (bit_in (nat_eq w_op 120)) (mux_in (either w_is_nmi_flags
+            w_is_reset_high) 1 _ 2 (lit< tt) fits.i))) fits.i);
+        z = mux_in pins.reset _ _ 2 fits.z (mux_in pins.step _ _ 2 (mux_in w_pulls_flags _ _ 2 (mod_in _ 2 (lit< tt))
+            (mux_in (both w_acts w_to_nz) _ _ 2 (none_in (mux w_test (bit_and cells.a pins.din) (mux w_sums (part 0 8
+            w_sum) w_result))) fits.z)) fits.z);
+        c = mux_in pins.reset _ _ 2 fits.c (mux_in pins.step _ _ 2 (mux_in w_pulls_flags _ _ 2 (mod_in _ 2 (lit< tt))
+            (mux_in (both w_acts (either (either (either (either w_compare (both w_alters (none (either w_inc w_dec))))
+            w_sums) w_clc) w_sec)) _ _ 2 (mux_in w_compare _ _ 2 (bit_in (nat_le pins.din w_compared)) (mux_in w_sums _
+            _ 2 (mux_in (both w_adc cells.d) _ _ 2 (bit_in (nat_le 160 w_digits)) (mod_in _ 2 (lit< tt))) (mux_in
+            (either w_clc w_sec) _ _ 2 (bit_in (nat_eq w_op 56)) (mux_in (either w_lsr w_ror) _ _ 2 (mod_in _ 2 (lit<
+            tt)) (bit_in (nat_le 128 w_old)))))) fits.c)) fits.c);
+        state = mux_in pins.reset 0 _ 21 (lit< tt) (mux_in pins.step _ _ 21 (mux_in w_is_nmi_high 13 _ 21 (lit< tt)
+            (mux_in (both w_sync (either (either (either (either (either (either (either (either (either (either
+            w_immediate w_zero_page) w_absolute) w_indirect_x) w_indirect_y) w_zero_page_i) w_absolute_i) w_branch)
+            w_jmp) w_jump_at) w_jsr)) 3 _ 21 (lit< tt) (mux_in (both w_sync (eq w_op 96)) 11 _ 21 (lit< tt) (mux_in
+            (both w_sync (either (eq w_op 72) (eq w_op 8))) 19 _ 21 (lit< tt) (mux_in (both w_sync (either (either w_pla
+            (eq w_op 40)) w_rti)) 20 _ 21 (lit< tt) (mux_in (both w_is_first (either (either (either (either w_absolute
+            w_absolute_i) w_jmp) w_jump_at) w_jsr)) 4 _ 21 (lit< tt) (mux_in (both w_is_first (either w_indirect_x
+            w_indirect_y)) 5 _ 21 (lit< tt) (mux_in (both w_is_first (either w_zero_page w_zero_page_i)) 7 _ 21 (lit<
+            tt) (mux_in (both w_is_second (either w_absolute w_absolute_i)) 7 _ 21 (lit< tt) (mux_in (both w_is_second
+            w_jsr) 9 _ 21 (lit< tt) (mux_in (both w_is_second w_jump_at) 17 _ 21 (lit< tt) (mux_in w_is_jump_low 18 _ 21
+            (lit< tt) (mux_in w_is_point_low 6 _ 21 (lit< tt) (mux_in w_is_point_high 7 _ 21 (lit< tt) (mux_in (both
+            w_is_data w_changes) 8 _ 21 (lit< tt) (mux_in w_is_call_high 10 _ 21 (lit< tt) (mux_in w_is_pull_low 12 _ 21
+            (lit< tt) (mux_in (both w_is_pull w_rti) 11 _ 21 (lit< tt) (mux_in w_is_nmi_low 14 _ 21 (lit< tt) (mux_in
+            w_is_nmi_flags 15 _ 21 (lit< tt) (mux_in w_is_nmi_to_low 16 _ 21 (lit< tt) (mux_in w_is_reset_low 1 2 21
+            (lit< tt) (lit< tt))))))))))))))))))))))) fits.state);
+        ir = mux_in pins.reset _ _ 256 fits.ir (mux_in pins.step _ _ 256 (mux_in w_sync _ _ 256 din_in fits.ir)
+            fits.ir);
+        low = mux_in pins.reset _ _ 256 fits.low (mux_in pins.step _ _ 256 (mux_in w_is_first _ _ 256 (mux_in (either
+            w_zero_page_i w_indirect_x) _ _ 256 (mod_in _ 256 (lit< tt)) din_in) (mux_in (both w_is_second w_absolute_i)
+            _ _ 256 (mod_in _ 256 (lit< tt)) (mux_in w_is_point_high _ _ 256 (mux_in w_indirect_y _ _ 256 (mod_in _ 256
+            (lit< tt)) fits.high) (mux_in (either (either w_is_pull_low w_is_reset_low) w_is_nmi_to_low) _ _ 256 din_in
+            fits.low)))) fits.low);
+        high = mux_in pins.reset _ _ 256 fits.high (mux_in pins.step _ _ 256 (mux_in w_is_first 0 _ 256 (lit< tt)
+            (mux_in (both w_is_second w_absolute_i) _ _ 256 (mod_in _ 256 (lit< tt)) (mux_in (either w_is_second
+            w_is_point_low) _ _ 256 din_in (mux_in w_is_point_high _ _ 256 (mux_in w_indirect_y _ _ 256 (mod_in _ 256
+            (lit< tt)) din_in) fits.high)))) fits.high);
+        back = mux_in pins.reset _ _ 256 fits.back (mux_in pins.step _ _ 256 (mux_in w_is_data _ _ 256 result_in (mux_in
+            w_is_jump_low _ _ 256 din_in fits.back)) fits.back);
+        was = mux_in pins.reset _ _ 2 nmi_in (mux_in pins.step _ _ 2 nmi_in fits.was);
+        due = mux_in pins.reset 0 _ 2 (lit< tt) (mux_in pins.step _ _ 2 (either_in (both pins.nmi (none cells.was))
+            (both cells.due (none w_is_nmi_high))) fits.due);
       },
-      at_in,
-      write_in,
-      dout_in,
+      mux_in w_sync _ _ 65536 fits.pc (mux_in w_is_first _ _ 65536 (mod_in _ 65536 (lit< tt)) (mux_in w_is_second _ _
+          65536 (mod_in _ 65536 (lit< tt)) (mux_in w_is_point_low _ _ 65536 (wider _ 256 65536 fits.low (lit≤ tt))
+          (mux_in w_is_point_high _ _ 65536 (wider _ 256 65536 (mod_in _ 256 (lit< tt)) (lit≤ tt)) (mux_in (either
+          w_is_data w_is_back) _ _ 65536 (joined_in 8 8 _ _ fits.low fits.high) (mux_in w_pushes _ _ 65536 (joined_in 8
+          8 _ 1 fits.s (lit< tt)) (mux_in w_pulls _ _ 65536 (joined_in 8 8 _ 1 (mod_in _ 256 (lit< tt)) (lit< tt))
+          (mux_in w_is_jump_low _ _ 65536 (joined_in 8 8 _ _ fits.low fits.high) (mux_in w_is_jump_high _ _ 65536
+          (joined_in 8 8 _ _ (mod_in _ 256 (lit< tt)) fits.high) (mux_in w_is_nmi_to_low 65530 _ 65536 (lit< tt) (mux_in
+          w_is_nmi_to_high 65531 _ 65536 (lit< tt) (mux_in w_is_reset_low 65532 65533 65536 (lit< tt) (lit<
+          tt))))))))))))),
+      either_in (either w_pushes w_is_back) (both w_is_data w_store),
+      mux_in w_is_data _ _ 256 (mux_in w_store_x _ _ 256 fits.x (mux_in w_store_y _ _ 256 fits.y fits.a)) (mux_in
+          w_is_back _ _ 256 fits.back (mux_in w_is_call_high _ _ 256 (mod_in _ 256 (lit< tt)) (mux_in w_is_call_low _ _
+          256 (mod_in _ 256 (lit< tt)) (mux_in w_is_nmi_high _ _ 256 (mod_in _ 256 (lit< tt)) (mux_in w_is_nmi_low _ _
+          256 (mod_in _ 256 (lit< tt)) (mux_in (both w_is_push (none (both w_is_push w_n83))) _ _ 256 fits.a (joined_in
+          1 7 _ _ fits.c (joined_in 1 6 _ _ fits.z (joined_in 1 5 _ _ fits.i (joined_in 1 4 _ _ fits.d (joined_in 1 3 _
+          _ (both_in w_is_push w_n83) (joined_in 1 2 1 _ (lit< tt) (joined_in 1 1 _ _ fits.v fits.n))))))))))))),
     )
