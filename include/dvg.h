@@ -1114,7 +1114,7 @@ DVG_INLINE size_t dvg_saved_end(const uint8_t *bytes, size_t size)
  * DVG_SAVED_FAULT_BROKEN; DVG_SAVED_FAULT_OTHER_VERSION; else DVG_SAVED_FAULT_NONE. */
 DVG_INLINE dvg_saved_fault dvg_saved_sum_fault(const uint8_t *bytes, size_t size)
 {
-    if (size < 16 || size % 8 != 0 || (uint64_t)size >> 35 != 0) {
+    if (size < 16 || (uint64_t)size >> 35 != 0) {
         return DVG_SAVED_FAULT_BROKEN;
     }
     dvg_need(bytes);
@@ -1149,7 +1149,7 @@ DVG_INLINE dvg_saved_fault dvg_saved_head_fault(const uint8_t *bytes, size_t siz
     }
     head = bytes[3] == DVG_SAVED_VERSION ? dvg_saved_head(*what, size / 8 - 1)
                                          : dvg_saved_head_over(*what, size / 8 - 1);
-    return dvg_saved_number(bytes) == head && dvg_saved_end(bytes, size) >= 16
+    return dvg_saved_number(bytes) == head && size % 8 == 0 && dvg_saved_end(bytes, size) >= 16
                ? DVG_SAVED_FAULT_NONE
                : DVG_SAVED_FAULT_BROKEN;
 }
@@ -1272,13 +1272,13 @@ DVG_INLINE dvg_answer dvg_tell_saved(dvg *device, dvg_saved what, const uint8_t 
         if (what == DVG_SAVED_WORLD && (number & 0xFF) == DVG_REQUEST_PUSH) {
             code = DVG_REQUEST_PUSH;
         }
-        answer.kind = DVG_NO_STATE;
+        answer = dvg_answer_of(DVG_NO_STATE);
         if ((number & 0xFF) == code) {
             answer = dvg_ask(device, number);
         }
     }
     if (answer.kind == DVG_NO_OPERATION || answer.kind == DVG_FULL) {
-        answer.kind = DVG_NO_STATE;
+        answer = dvg_answer_of(DVG_NO_STATE);
     }
     return answer;
 }
@@ -1304,7 +1304,7 @@ DVG_INLINE dvg_answer dvg_restore_world(dvg *device, const uint8_t *bytes, size_
     }
     told = dvg_ask_staged(device, staged, driver);
     if (told.kind == DVG_UNKNOWN) {
-        told.kind = DVG_NO_STATE;
+        told = dvg_answer_of(DVG_NO_STATE);
     }
     return told;
 }
@@ -1542,6 +1542,41 @@ DVG_INLINE dvg_answer dvg_generator_fetch_from(dvg *device, const uint8_t *ram,
     return dvg_hand_from(device, 2 * wanted.address + wanted.value, ram, rom, rom_length);
 }
 
+/* Of a generator whose newest answer this is: hands it bytes of this memory until its run ends, or
+ * *words words were fetched, of which each is taken off. Answers the last fetch, or `answer`. */
+DVG_INLINE dvg_answer dvg_go_on(dvg *device, dvg_answer answer, const uint8_t *ram,
+                                const uint8_t *rom, size_t rom_length, uint32_t *words)
+{
+    dvg_need(words);
+    while (*words > 0 && answer.next >= 0) {
+        answer = dvg_hand_from(device, answer.next, ram, rom, rom_length);
+        if (answer.kind == DVG_FETCHED || answer.kind == DVG_DONE) {
+            (*words)--;
+        }
+    }
+    return answer;
+}
+
+/* Of a generator: lets its open run go on over this memory, as dvg_generator_fetch_from has it,
+ * until it ends, at most `most_words` words. Answers the last fetch: DVG_DONE; DVG_BROKE;
+ * DVG_NO_MEMORY; DVG_FETCHED, where the run didn't end within these words, and DVG_WANTED, where
+ * these are none; or DVG_STILL: no run is open; DVG_WRONG_SIZE, as there. */
+DVG_INLINE dvg_answer dvg_generator_run_to_halt(dvg *device, const uint8_t *ram,
+                                                const uint8_t *rom, size_t rom_length,
+                                                uint32_t most_words)
+{
+    dvg_answer answer;
+    if (!dvg_is_rom_length(rom_length)) {
+        return dvg_answer_of(DVG_WRONG_SIZE);
+    }
+    answer = dvg_wants(device);
+    if (answer.kind != DVG_WANTED || most_words == 0) {
+        return answer;
+    }
+    answer.next = 2 * answer.address + answer.value;
+    return dvg_go_on(device, answer, ram, rom, rom_length, &most_words);
+}
+
 /* How dvg_draw ended. */
 typedef struct dvg_drawn {
     dvg_answer last;            /* the last answer: its kind tells how the run ended */
@@ -1571,6 +1606,7 @@ DVG_INLINE dvg_drawn dvg_draw(dvg *device, const uint8_t *ram, const uint8_t *ro
                               dvg_stroke_function on_stroke, void *context)
 {
     dvg_drawn drawn;
+    uint32_t left = most_words;
     uint64_t number;
     drawn.words = 0;
     drawn.strokes = 0;
@@ -1579,13 +1615,8 @@ DVG_INLINE dvg_drawn dvg_draw(dvg *device, const uint8_t *ram, const uint8_t *ro
         return drawn;
     }
     dvg_open_generator(device);
-    drawn.last = dvg_strobe(device);
-    while (drawn.words < most_words && drawn.last.next >= 0) {
-        drawn.last = dvg_hand_from(device, drawn.last.next, ram, rom, rom_length);
-        if (drawn.last.kind == DVG_FETCHED || drawn.last.kind == DVG_DONE) {
-            drawn.words++;
-        }
-    }
+    drawn.last = dvg_go_on(device, dvg_strobe(device), ram, rom, rom_length, &left);
+    drawn.words = most_words - left;
     if (drawn.last.kind == DVG_DONE) {
         drawn.strokes = dvg_strokes(device);
         for (number = 0; number < drawn.strokes && on_stroke != NULL; number++) {

@@ -54,6 +54,7 @@ import functools
 import itertools
 import operator
 import os
+import struct
 import sys
 import threading
 from array import array
@@ -489,6 +490,36 @@ def library_path() -> Path:
     return beside if beside.exists() else here.parent / "build" / "libdvg.so"
 
 
+class _Answer(ctypes.Structure):
+    """An answer of a call of include/dvg.h: its dvg_answer."""
+
+    _fields_ = [
+        ("kind", ctypes.c_uint32), ("address", ctypes.c_uint16), ("value", ctypes.c_uint16),
+        ("next", ctypes.c_int32),
+    ]
+
+    @property
+    def number(self) -> int:
+        """The number of which this is made."""
+        return int(self.kind | self.address << 8 | self.value << 24)
+
+
+# The types of C, by letters: a device or another pointer, bytes, a length, numbers, an answer.
+_TYPES: "dict[str, Any]" = {
+    "p": ctypes.c_void_p, "b": ctypes.c_char_p, "n": ctypes.c_size_t, "w": ctypes.c_uint32,
+    "q": ctypes.c_uint64, "a": _Answer, "0": None,
+}
+
+#: The calls of include/dvg.h that are made here: what each returns, and what it takes.
+_CALLS_OF_C = {
+    "dvg_new": "wp", "dvg_free": "0p", "dvg_turn": "qpq", "dvg_turns": "npppn",
+    "dvg_open_world": "apbbn", "dvg_open_driver": "apbn", "dvg_reset_all": "apb",
+    "dvg_wants": "ap", "dvg_go_on": "apabbnp", "dvg_ram": "app", "dvg_digest": "qbn",
+    "dvg_save": "nppn", "dvg_save_over": "npqpn", "dvg_saved_fault_over": "wqbn",
+    "dvg_restore_over": "apqbn", "dvg_take_strokes": "qppp",
+}
+
+
 @functools.lru_cache(maxsize=None)
 def _load(path: Path) -> ctypes.CDLL:
     """The library there, with its functions declared: else pointers would be cut."""
@@ -496,14 +527,9 @@ def _load(path: Path) -> ctypes.CDLL:
         raise LibraryMissing(f"there is no {path}: ./lib builds it, and DVG_LIBRARY names another")
     try:
         library = ctypes.CDLL(str(path))
-        library.dvg_new.argtypes = [ctypes.POINTER(ctypes.c_void_p)]
-        library.dvg_new.restype = ctypes.c_uint32
-        library.dvg_turn.argtypes = [ctypes.c_void_p, ctypes.c_uint64]
-        library.dvg_turn.restype = ctypes.c_uint64
-        library.dvg_turns.argtypes = [ctypes.c_void_p] * 3 + [ctypes.c_size_t]
-        library.dvg_turns.restype = ctypes.c_size_t
-        library.dvg_free.argtypes = [ctypes.c_void_p]
-        library.dvg_free.restype = None
+        for name, types in _CALLS_OF_C.items():
+            call = getattr(library, name)
+            call.restype, *call.argtypes = map(_TYPES.__getitem__, types)
     except (OSError, AttributeError) as error:
         raise LibraryMissing(f"{path} can't be used: {error}: ./lib builds one") from error
     return library
@@ -568,17 +594,17 @@ _ERRORS = {
     Kind.NO_MEMORY: OutOfMemory("memory was refused"),
 }
 
-#: The versions of a saved state: the first one has no digest of a ROM, and no sum.
-_FIRST_VERSION, _SAVED_VERSION = 1, 2
-
-#: How many bytes the digest and the sum have.
-_MORE_BYTES = 16
-
 #: What was saved, by the letter in its bytes.
 _GENERATOR, _WRAPPING, _WORLD = b"G", b"R", b"W"
 
-#: How many numbers the RAM is in a saved world.
-_RAM_NUMBERS = RAM_BYTES // 8
+#: How many bytes a saved world has, but for strokes.
+_SAVED_BYTES = 6208
+
+#: Why bytes aren't restored, by the numbers of include/dvg.h.
+_STATE_FAULTS = (
+    None, StateFault.BROKEN, StateFault.OTHER_VERSION, StateFault.OTHER_CLASS,
+    StateFault.OTHER_ROM, StateFault.PARTS,
+)
 
 
 def _whole(name: str, value: int) -> int:
@@ -625,123 +651,9 @@ def _bytes(name: str, held: Bytes) -> bytes:
     return view.tobytes()
 
 
-def _digest(held: bytes) -> int:
-    """FNV-1a of 64 bits, by Fowler, Noll and Vo, who gave it to the public domain.
-
-    http://www.isthe.com/chongo/tech/comp/fnv has it. Two that differ in one byte have two digests.
-    """
-    digest = 0xCBF29CE484222325
-    for byte in held:
-        digest = (digest ^ byte) * 0x100000001B3 & 0xFFFFFFFFFFFFFFFF
-    return digest
-
-
-#: The same of a ROM: worlds over it are saved and restored often.
-_rom_digest = functools.lru_cache(maxsize=16)(_digest)
-
-
-def _first_bytes(what: bytes, ram: bytes, numbers: "array[int]") -> bytes:
-    """The bytes of a saved state: of what it is, of a RAM where it has one, and these numbers."""
-    count = len(ram) // 8 + len(numbers)
-    head = b"DV" + what + bytes([_FIRST_VERSION]) + count.to_bytes(4, "little")
-    return head + ram + _turned(numbers).tobytes()
-
-
-def _saved_bytes(first: bytes, rom: int) -> bytes:
-    """A saved state of the first version as one that has the digest of a ROM, or 0, and a sum."""
-    count = len(first) // 8 + 1
-    head = first[:3] + bytes([_SAVED_VERSION]) + count.to_bytes(4, "little")
-    summed = head + first[8:] + rom.to_bytes(8, "little")
-    return summed + _digest(summed).to_bytes(8, "little")
-
-
-def _turned(numbers: "array[int]") -> "array[int]":
-    """These numbers with their low byte first, or numbers that come so."""
-    if sys.byteorder != "little":
-        numbers.byteswap()
-    return numbers
-
-
-def _version_fault(saved: bytes) -> Optional[StateFault]:
-    """Why bytes can't be a saved state, by their version, and but for the first one their sum."""
-    if len(saved) < 16 or not saved.startswith(b"DV"):
-        return StateFault.BROKEN
-    if saved[3] == _FIRST_VERSION:
-        return None
-    if _digest(saved[:-8]).to_bytes(8, "little") != saved[-8:]:
-        return StateFault.BROKEN
-    return None if saved[3] == _SAVED_VERSION else StateFault.OTHER_VERSION
-
-
-def _state_fault(what: bytes, saved: bytes) -> Optional[StateFault]:
-    """Why bytes can't be a saved state of this, by their head, their length and their sum."""
-    fault = _version_fault(saved)
-    if fault is not None:
-        return fault
-    if saved[2:3] not in (_GENERATOR, _WRAPPING, _WORLD):
-        return StateFault.BROKEN
-    if saved[2:3] != what:
-        return StateFault.OTHER_CLASS
-    count, least = int.from_bytes(saved[4:8], "little"), 1 if saved[3] == _FIRST_VERSION else 3
-    return StateFault.BROKEN if count < least or len(saved) != 8 + 8 * count else None
-
-
-def _saved_numbers(what: bytes, saved: bytes, rom: int = 0) -> "array[int]":
-    """The numbers of a saved state of this that both versions have, after its head. BadState.
-
-    `rom` is the digest of a world's ROM. That in the bytes must be the same, if it isn't 0.
-    """
-    fault = _state_fault(what, saved)
-    if fault is None and saved[3] != _FIRST_VERSION:
-        saved, named = saved[:-_MORE_BYTES], int.from_bytes(saved[-_MORE_BYTES:-8], "little")
-        if what == _WORLD and named not in (0, rom):
-            fault = StateFault.OTHER_ROM
-    if fault is not None:
-        raise BadState(fault)
-    numbers = array("Q")
-    numbers.frombytes(saved[8:])
-    return _turned(numbers)
-
-
-def _are_parts(numbers: "array[int]") -> bool:
-    """Whether each of these numbers tells a part of a generator's state, the first its fields."""
-    tell = int(_Request.TELL_STATE)
-    return numbers[0] & 0xFFFF == tell and all(number & 0xFF == tell for number in numbers)
-
-
-def _saved_parts(saved: bytes, wraps: bool) -> "array[int]":
-    """The parts of a saved generator, each as the request that tells it. BadState."""
-    numbers = _saved_numbers(_WRAPPING if wraps else _GENERATOR, saved)
-    if not _are_parts(numbers):
-        raise BadState(StateFault.PARTS)
-    return numbers
-
-
 def _place(part: int) -> "tuple[int, int]":
     """The place that a part of a state tells."""
     return part >> 16 & 0x3FFFFF, part >> 38 & 0x3FFFFF
-
-
-def _saved_world(saved: bytes, rom: int) -> "tuple[bytes, array[int], array[int], int]":
-    """Of a saved world its RAM, its generator's parts, its operations and its driver. BadState.
-
-    All but the RAM are the requests that tell them. `rom` is the digest of its ROM.
-    """
-    numbers = _saved_numbers(_WORLD, saved, rom)[_RAM_NUMBERS:]
-    tells = itertools.takewhile(lambda number: number & 0xFF == _Request.TELL_STATE, numbers)
-    count = sum(1 for _ in tells)
-    parts, operations = numbers[:count], numbers[count:]
-    if not operations or not parts or not _are_parts(parts):
-        raise BadState(StateFault.PARTS)
-    driver = operations.pop()
-    pushes = all(number & 0xFF == _Request.PUSH for number in operations)
-    if not pushes or driver & 0xFF != _Request.RESUME_WORLD:
-        raise BadState(StateFault.PARTS)
-    return saved[8:8 + RAM_BYTES], parts, operations, driver
-
-
-#: What is asked of a world for each byte of its RAM.
-_OF_RAM = array("Q", (int(_Request.BYTE) | at << 8 for at in range(RAM_BYTES)))
 
 
 def _units(start: int, end: int) -> int:
@@ -800,13 +712,6 @@ def _place_of(at: int, rom_bytes: int) -> Optional[int]:
         return at
     rom_begins = 0x1800 - rom_bytes
     return RAM_BYTES + at - rom_begins if rom_begins <= at < 0x1800 else None
-
-
-@functools.lru_cache(maxsize=16)
-def _staging(held: bytes) -> "array[int]":
-    """The requests that stage these bytes, one by one."""
-    one = int(_Request.STAGE) | 1 << 24
-    return array("Q", (one | byte << 16 for byte in held))
 
 
 _Own = TypeVar("_Own", bound="_Device")
@@ -869,17 +774,17 @@ class _Device:
 
     _handle = _NEVER_OPENED
 
-    def __init__(self, request: "_Request", held: Optional[bytes] = None) -> None:
-        """Opens what this request opens, for which these bytes are staged: once. Opened."""
+    def __init__(self, opening: "Union[_Request, str]", *words: Any) -> None:
+        """Opens what this request opens, or this call of C with these words: once. Opened."""
         handle = _Handle(_load(library_path()))
         with handle.lock:
             if vars(self).setdefault("_handle", handle) is not handle:
                 raise Opened("it was opened already")
             try:
-                if held is None:
-                    self._ask(request)
+                if isinstance(opening, str):
+                    self._call(opening, *words)
                 else:
-                    self._with_staged(request, held)
+                    self._ask(opening)
             except BaseException:
                 handle.close()
                 raise
@@ -956,6 +861,15 @@ class _Device:
         """One request, and its answer; what is refused is raised."""
         return self._entry(self._turn(request, fields))
 
+    def _answer_of(self, call: str, *words: Any) -> Any:
+        """What a call of C answers, which this device and these words are handed to."""
+        device = self._own_device()
+        return getattr(self._handle.library, call)(device, *words)
+
+    def _call(self, call: str, *words: Any) -> Entry:
+        """The same as an entry; what is refused is raised."""
+        return self._entry(self._answer_of(call, *words).number)
+
     def _entry(self, number: int) -> Entry:
         """The entry that the newest answer is; what is refused is raised."""
         entry = _entry_of(number & _ENTRY_BITS)
@@ -975,42 +889,33 @@ class _Device:
         answers = array("Q", requests)
         return self._entry(answers[self._turns(answers) - 1])
 
-    def _stage(self, held: bytes) -> None:
-        """Stages these bytes, in place of what is staged."""
-        self._turn(_Request.UNSTAGE)
-        self._ask_all(_staging(held))
-
-    def _with_staged(self, request: _Request, held: bytes, fields: int = 0) -> Entry:
-        """A request for which these bytes are staged. Whatever comes, none is staged then."""
-        try:
-            self._stage(held)
-            return self._ask(request, fields)
-        finally:
-            self._turn(_Request.UNSTAGE)
-
     def _offer(self, draft: "Draft") -> Entry:
         """Hands a draft to the driver."""
         return self._ask_all(array("Q", draft.requests()))
 
-    def _answers(self, request: _Request, code: int) -> "array[int]":
-        """The answers to this request, numbered from 0, as long as this is their lowest byte."""
-        found = array("Q")
-        while True:
-            numbers = range(len(found), len(found) + (512 if found else 16))
-            asked = array("Q", (int(request) | number << 8 for number in numbers))
-            self._turns(asked)
-            found.extend(itertools.takewhile(lambda answer: answer & 0xFF == code, asked))
-            if len(found) < numbers.stop:
-                return found
+    def _saved(self, call: str, *words: Any) -> bytes:
+        """The bytes that a call of C saves, which these words are handed to."""
+        length, room = _SAVED_BYTES, 0
+        while length > room:
+            room = length
+            held = ctypes.create_string_buffer(room)
+            length = self._answer_of(call, *words, held, room)
+        return ctypes.string_at(held, length)
 
-    def _tell_saved(self, requests: "array[int]") -> None:
-        """Tells what was saved, by these requests. BadState; OutOfMemory."""
-        answers = array("Q", requests)
-        self._turns(answers)
-        for answer in answers:
-            if answer & 0xFF in (Kind.NO_OPERATION, Kind.FULL):
-                raise BadState(StateFault.PARTS)
-            self._entry(answer)
+    def _restore(self, letters: bytes, rom: int, saved: Bytes) -> None:
+        """Restores a saved state that has one of these letters, over a ROM of this digest."""
+        held = _bytes("a saved state", saved)
+        device, library = self._own_device(), self._handle.library
+        fault = _STATE_FAULTS[library.dvg_saved_fault_over(rom, held, len(held))]
+        if fault in (None, StateFault.PARTS) and held[2] not in letters:
+            fault = StateFault.OTHER_CLASS
+        if fault is None:
+            answer = library.dvg_restore_over(device, rom, held, len(held))
+            if answer.kind != Kind.NO_STATE:
+                self._entry(answer.number)
+                return
+            fault = _STATE_FAULTS[answer.value]
+        raise BadState(fault or StateFault.PARTS)
 
     def _beam(self) -> Beam:
         place = self._turn(_Request.BEAM)
@@ -1220,7 +1125,8 @@ class Driver(_Device):
 
     def __init__(self, rom: Optional[Bytes] = None) -> None:
         """A driver over a ROM of 2,048 or 4,096 bytes. WrongSize, OutOfMemory."""
-        super().__init__(_Request.OPEN_DRIVER, _rom(rom))
+        held = _rom(rom)
+        super().__init__("dvg_open_driver", held, len(held))
 
     @_alone
     def tick(self, halted: bool, byte1: int) -> Entry:
@@ -1349,16 +1255,7 @@ class Generator(_Device):
 
         `restore` takes them, in any process. Strokes of a finished run are no part of it.
         """
-        return _saved_bytes(self._state(), 0)
-
-    @_alone
-    def _first_version(self) -> bytes:
-        """The same of the first version, without a sum: a copy takes less time so."""
-        return self._state()
-
-    def _state(self) -> bytes:
-        parts = self._answers(_Request.STATE, int(Kind.STATE))
-        return _first_bytes(_WRAPPING if self._wraps else _GENERATOR, b"", parts)
+        return self._saved("dvg_save_over", 0)
 
     @_alone
     def restore(self, saved: Bytes) -> None:
@@ -1367,17 +1264,8 @@ class Generator(_Device):
         Then it has no strokes of a finished run. The bytes may be those of either kind: its stack
         wraps where that of the saved one did.
         """
-        held = _bytes("a saved state", saved)
-        wraps = held[2:3] == _WRAPPING
-        parts = _saved_parts(held, wraps)
-        try:
-            self._tell_saved(parts)
-            self._ask(_Request.RESUME_WRAPPING if wraps else _Request.RESUME)
-            self._wraps = wraps
-        except Error:
-            # What was told is forgotten.
-            self._turn(_Request.TELL_STATE)
-            raise
+        self._restore(_GENERATOR + _WRAPPING, 0, saved)
+        self._wraps = self._turn(_Request.HOLDS) >> 24 & 0x40 != 0
 
     @_alone
     def take_strokes(self) -> "list[Stroke]":
@@ -1387,15 +1275,12 @@ class Generator(_Device):
         takes no more memory than what it draws between two such calls. The strokes of a finished
         run go, too. Where there is none to take, nothing changes.
         """
-        parts = self._answers(_Request.STATE, int(Kind.STATE))
+        parts = [part for (part,) in struct.iter_unpack("<Q", self._saved("dvg_save"))][1:]
         taken = [
             Stroke(*_place(begin), *_place(end), end >> 60)
             for begin, end in zip(parts, parts[1:]) if end >> 8 & 0xFF == 3
         ]
-        if taken:
-            kept = array("Q", (part for part in parts if part >> 8 & 0xFF < 2))
-            self._tell_saved(kept + parts[-1:])
-            self._ask(_Request.RESUME_WRAPPING if self._wraps else _Request.RESUME)
+        self._answer_of("dvg_take_strokes", None, None)
         return taken
 
     def copy(self) -> "Generator":
@@ -1405,7 +1290,7 @@ class Generator(_Device):
         """
         other = Generator()
         try:
-            other.restore(self._first_version())
+            other.restore(self.save())
         except Error:
             other.close()
             raise
@@ -1471,18 +1356,17 @@ class Generator(_Device):
         return self._run_to_halt(*memory, most)
 
     def _run_to_halt(self, ram: bytes, rom: bytes, most: int) -> Picture:
-        memory, rom_bytes = ram + rom, len(rom)
-        low, fetched = int(Kind.LOW), int(Kind.FETCHED)
-        wanted, words = self._turn(_Request.WANTS), 0
-        at = 2 * (wanted >> 8 & 0xFFF) + (wanted >> 24 & 1)
+        answer, words = self._answer_of("dvg_wants"), 0
+        answer.next = 2 * answer.address + answer.value
         while words < most:
-            place = _place_of(at, rom_bytes)
-            number = self._turn(_Request.FETCH, 0x100 if place is None else memory[place] << 16)
-            words += number & 0xFF != low
-            if number & 0xFF not in (low, fetched):
-                self._entry(number)
+            # A signal is handled between two of these calls.
+            some = min(most - words, 1 << 20)
+            left = ctypes.c_uint32(some)
+            answer = self._answer_of("dvg_go_on", answer, ram, rom, len(rom), ctypes.byref(left))
+            words += some - left.value
+            if answer.kind != Kind.FETCHED:
+                self._entry(answer.number)
                 return Picture(words, self._strokes())
-            at = number >> 40 & 0x1FFF  # each answer says which byte is wanted next
         raise Endless(most)
 
     @_alone
@@ -1503,14 +1387,13 @@ class World(_Device):
     It isn't copied: `save` it, and `restore` another one over the same ROM.
     """
 
-    _events = 0
-    _held_rom = RETURNS
+    _events = _digest = 0
 
     def __init__(self, rom: Optional[Bytes] = None, ram: Optional[Bytes] = None) -> None:
         """A world whose driver boots, and whose generator is halted. WrongSize, OutOfMemory."""
         held = _rom(rom)
-        super().__init__(_Request.OPEN_WORLD, _ram(ram) + held)
-        self._held_rom = held
+        super().__init__("dvg_open_world", _ram(ram), held, len(held))
+        self._digest = self._handle.library.dvg_digest(held, len(held))
 
     @property
     def events(self) -> int:
@@ -1521,12 +1404,9 @@ class World(_Device):
     @_alone
     def ram(self) -> bytes:
         """The 2,048 bytes of its RAM, as they are now."""
-        return self._ram()
-
-    def _ram(self) -> bytes:
-        asked = array("Q", _OF_RAM)
-        self._turns(asked)
-        return _turned(asked).tobytes()[3::8]  # bits 24 to 31 of each answer
+        held = ctypes.create_string_buffer(RAM_BYTES)
+        self._answer_of("dvg_ram", held)
+        return held.raw
 
     @_alone
     def save(self) -> bytes:
@@ -1536,11 +1416,7 @@ class World(_Device):
         `restore` of a world over the same ROM takes them, in any process. Its ROM, `events`, and
         the strokes of a finished run are no part of it; a digest of the ROM is.
         """
-        numbers = self._answers(_Request.STATE, int(Kind.STATE))
-        numbers += self._answers(_Request.OPERATION, int(_Request.PUSH))
-        numbers.append(self._turn(_Request.DRIVER))
-        first = _first_bytes(_WORLD, self._ram(), numbers)
-        return _saved_bytes(first, _rom_digest(self._held_rom))
+        return self._saved("dvg_save_over", self._digest)
 
     @_alone
     def restore(self, saved: Bytes) -> None:
@@ -1552,18 +1428,7 @@ class World(_Device):
         it a run may draw something else, raise RunBroke, or never end. A strobe that was sent may
         not have arrived before the save: where the world is `halted`, let it arrive.
         """
-        held, digest = _bytes("a saved state", saved), _rom_digest(self._held_rom)
-        ram, parts, operations, driver = _saved_world(held, digest)
-        try:
-            self._turn(_Request.CLEAR)
-            self._tell_saved(parts + operations)
-            answer = self._with_staged(_Request.RESUME_WORLD, ram, driver & ~0xFF)
-            if answer.kind is not Kind.OPENED:
-                raise BadState(StateFault.PARTS)
-        except Error:
-            # What was told is forgotten.
-            self._turn(_Request.TELL_STATE)
-            raise
+        self._restore(_WORLD, self._digest, saved)
 
     @property
     @_alone
@@ -1660,7 +1525,7 @@ class World(_Device):
     def reset_all(self, ram: Optional[Bytes] = None) -> Entry:
         """A reset of the whole system, after which the RAM holds these bytes, or zeros: CLEARED."""
         held = _ram(ram)
-        entry = self._with_staged(_Request.RESET_ALL, held)
+        entry = self._call("dvg_reset_all", held)
         self._events += 1
         return entry
 

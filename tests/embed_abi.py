@@ -34,9 +34,10 @@ import gerbilargent  # noqa: E402
 FROZEN = TOP / "tests/embed_abi.txt"
 HEADERS = ("dvg.h", "dvg_heap.h")
 # These are other ones in each version, or no numbers.
-PASSED_OVER = {"DVG_VERSION", "DVG_VERSION_NUMBER", "DVG_H", "DVG_HEAP_H", "DVG_MUST_USE"}
+PASSED_OVER = {"DVG_VERSION", "DVG_VERSION_NUMBER", "DVG_H", "DVG_HEAP_H", "DVG_MUST_USE",
+               "DVG_INLINE"}
 CALL = re.compile(
-    r"(?m)^(?:DVG_MUST_USE )?(static inline )?((?:const )?\w+ \**)(dvg_\w+)\(([^)]*)\)\s*[{;]")
+    r"(?m)^(?:DVG_MUST_USE )?(DVG_INLINE )?((?:const )?\w+ \**)(dvg_\w+)\(([^)]*)\)\s*[{;]")
 
 
 def read(folder, name):

@@ -82,6 +82,8 @@
     CALL(dvg_take_strokes(NULL, NULL, NULL)) \
     CALL(dvg_hand_from(NULL, 0, bytes, bytes, DVG_ROM_BYTES)) \
     CALL(dvg_generator_fetch_from(NULL, bytes, bytes, DVG_ROM_BYTES)) \
+    CALL(dvg_go_on(NULL, dvg_answer_of(UINT64_C(1) << 60), bytes, bytes, DVG_ROM_BYTES, &words)) \
+    CALL(dvg_generator_run_to_halt(NULL, bytes, bytes, DVG_ROM_BYTES, 9)) \
     CALL(dvg_draw(NULL, bytes, bytes, DVG_ROM_BYTES, 9, NULL, NULL))
 
 /* Null pointers for what a call needs. `device` is one in which a run of a generator is open. */
@@ -105,6 +107,8 @@
     CALL(dvg_hand_from(device, 0, NULL, bytes, DVG_ROM_BYTES)) \
     CALL(dvg_hand_from(device, 0x1000, bytes, NULL, DVG_ROM_BYTES)) \
     CALL(dvg_generator_fetch_from(device, NULL, bytes, DVG_ROM_BYTES)) \
+    CALL(dvg_go_on(device, line, bytes, bytes, DVG_ROM_BYTES, NULL)) \
+    CALL(dvg_generator_run_to_halt(device, NULL, bytes, DVG_ROM_BYTES, 9)) \
     CALL(dvg_draw(device, NULL, bytes, DVG_ROM_BYTES, 9, NULL, NULL))
 
 /* What answers: a null pointer that nothing is read of, and a length that none has. */
@@ -119,6 +123,7 @@ static bool answers(dvg *device)
            && dvg_open_world(device, NULL, nowhere, 6145).kind == DVG_WRONG_SIZE
            && dvg_open_driver(device, nowhere, (size_t)-1).kind == DVG_WRONG_SIZE
            && dvg_generator_fetch_from(device, nowhere, nowhere, 1).kind == DVG_WRONG_SIZE
+           && dvg_generator_run_to_halt(device, nowhere, nowhere, 1, 9).kind == DVG_WRONG_SIZE
            && dvg_draw(device, nowhere, nowhere, 1, 9, NULL, NULL).last.kind == DVG_WRONG_SIZE
            && dvg_wants(device).kind == DVG_WANTED;
 }
@@ -155,6 +160,7 @@ static void make(int number)
     dvg *device = make_device();
     dvg_move move;
     dvg_held held;
+    uint32_t words = 9;
     int here = 0;
 #define CALL(call) \
     if (here++ == number) { \

@@ -10,6 +10,7 @@ built: then the dumps are drawn by dvg_draw, too. What passes prints nothing. Th
 
 import contextlib
 import copy
+import ctypes
 import io
 import os
 import random
@@ -109,19 +110,50 @@ def test_world():
         expect_same("peek", str(world.tick()), "a ROM of 4,096 bytes")
 
 
+class Place(ctypes.Structure):
+    """A dvg_stroke, which a call returns by value."""
+
+    _fields_ = [*((name, ctypes.c_uint32) for name in g.Stroke._fields[:4]), ("z", ctypes.c_uint8)]
+
+
+def test_names():
+    """A picture by the names of dvg.h's calls alone, as another language binds them."""
+    library, device = ctypes.CDLL(os.environ["DVG_LIBRARY"]), ctypes.c_void_p()
+
+    def kind_of(name, *words):
+        call = library[name]
+        call.restype = g._Answer
+        return Kind(call(device, *words).kind)
+
+    library.dvg_new(ctypes.byref(device))
+    kinds = [kind_of("dvg_open_world", None, g.RETURNS, ctypes.c_size_t(2048))]
+    kinds += [kind_of("dvg_labs", 512, 400, 0), kind_of("dvg_vctr", 9, -100, 100, 7)]
+    kinds += [kind_of("dvg_halt"), kind_of("dvg_run_to_halt", 2), kind_of("dvg_offer")]
+    kinds.append(kind_of("dvg_run_to_halt", 1000))
+    wanted = [Kind.OPENED, *[Kind.PUSHED] * 3, Kind.STILL, Kind.OFFERED, Kind.DONE]
+    expect_same(wanted, kinds, "calls by their names")
+    library.dvg_stroke_at.restype = Place
+    drawn = library.dvg_stroke_at(device, ctypes.c_uint64(0))
+    drawn = tuple(getattr(drawn, name) for name, _ in Place._fields_)
+    expect_same((262144, 204800, 210944, 256000, 7), drawn, "a stroke by value")
+    library.dvg_kind_text.restype = ctypes.c_char_p
+    expect_same(b"no strobe", library.dvg_kind_text(int(Kind.NO_STROBE)), "a text")
+    library.dvg_free(device)
+
+
 def test_freeing():
     """Each device is freed, and once: by `close`, at the end of `with`, and where it is dropped."""
     real, freed = g._load(g.library_path()), []
 
     class Counting:
-        dvg_new, dvg_turn, dvg_turns = real.dvg_new, real.dvg_turn, real.dvg_turns
+        def __getattr__(self, name):
+            return getattr(real, name)
 
-        @staticmethod
-        def dvg_free(device):
+        def dvg_free(self, device):
             freed.append(device)
             real.dvg_free(device)
 
-    load, g._load = g._load, lambda path: Counting
+    load, g._load = g._load, lambda path: Counting()
     with World() as world:
         world.tick()
     expect_same(1, len(freed), "a world is freed at the end of `with`")
@@ -1204,6 +1236,7 @@ def test_texts():
 
 
 test_world()
+test_names()
 test_freeing()
 test_driver()
 test_generator()

@@ -85,9 +85,21 @@ static void test_faults(dvg *world, dvg *nothing, uint8_t *bytes, size_t size)
     expect(dvg_save_over(generator, digest, little, sizeof little) == 40
                && dvg_saved_number(little + 24) == 0, "a generator's bytes name no ROM");
     expect(dvg_restore_over(nothing, other, little, 40).kind == DVG_OPENED, "so it goes on");
+    /* Its last operation, the number behind the one before, is none. */
+    bytes[size - 32] = DVG_REQUEST_CLEAR;
+    dvg_saved_put(bytes, size, size - 8, dvg_digest(bytes, size - 8));
+    expect_fault(world, digest, bytes, size, DVG_SAVED_FAULT_PARTS);
+    bytes[size - 32] = DVG_REQUEST_PUSH;
     bytes[3] = 3;
     dvg_saved_put(bytes, size, size - 8, dvg_digest(bytes, size - 8));
     expect_fault(world, digest, bytes, size, DVG_SAVED_FAULT_OTHER_VERSION);
+    /* Those of a later version need not be whole numbers. */
+    for (uint8_t version = 3; version > 1; version--) {
+        little[3] = version;
+        dvg_saved_put(little, sizeof little, 35, dvg_digest(little, 35));
+        expect_fault(world, digest, little, 43, version == 2 ? DVG_SAVED_FAULT_BROKEN
+                                                             : DVG_SAVED_FAULT_OTHER_VERSION);
+    }
     dvg_free(elsewhere);
     dvg_free(generator);
 }

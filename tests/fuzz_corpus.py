@@ -36,12 +36,48 @@ EVENTS = {
 HEXADECIMAL = {"callrom": "call_rom", "jumprom": "jump_rom"}
 
 
+# Requests that the module makes by calls of dvg.h: what these ask stands there.
+STAGE, UNSTAGE, OPEN_WORLD, OPEN_DRIVER, RESET_ALL, CLEAR = 10, 11, 12, 13, 7, 9
+RESUME, RESUME_WRAPPING = 29, 34
+
+
 class Noting:
     """The library, which notes the requests of each device."""
 
     def __init__(self, library):
         self.library, self.noted = library, {}
-        self.dvg_free = library.dvg_free
+
+    def __getattr__(self, name):
+        return getattr(self.library, name)
+
+    def note_staged(self, device, held, request):
+        """Notes what hands these bytes to a request."""
+        runs = ((byte, len(list(same))) for byte, same in itertools.groupby(held))
+        stage = [STAGE | byte << 16 | count << 24 for byte, count in runs]
+        self.noted[device.value] += [UNSTAGE, *stage, request, UNSTAGE]
+
+    def dvg_open_world(self, device, ram, rom, length):
+        self.note_staged(device, ram + rom, OPEN_WORLD)
+        return self.library.dvg_open_world(device, ram, rom, length)
+
+    def dvg_open_driver(self, device, rom, length):
+        self.note_staged(device, rom, OPEN_DRIVER)
+        return self.library.dvg_open_driver(device, rom, length)
+
+    def dvg_reset_all(self, device, ram):
+        self.note_staged(device, ram, RESET_ALL)
+        return self.library.dvg_reset_all(device, ram)
+
+    def dvg_restore_over(self, device, rom, held, length):
+        first = states.first_of(held)
+        numbers = list(memoryview(first).cast("Q"))[1:]
+        if held[2:3] == b"W":
+            self.noted[device.value] += [CLEAR, *numbers[256:-1]]
+            self.note_staged(device, first[8:2056], numbers[-1])
+        else:
+            resume = RESUME_WRAPPING if held[2:3] == b"R" else RESUME
+            self.noted[device.value] += [*numbers, resume]
+        return self.library.dvg_restore_over(device, rom, held, length)
 
     def dvg_new(self, place):
         status = self.library.dvg_new(place)
