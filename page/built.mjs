@@ -1,10 +1,8 @@
 // What the page needs beside its modules, as constants on standard output: the listing of the
-// driver, the games, the opening, the examples, and what is said of faults. assemble.py adds
-// dvg.wasm.
+// driver, the games, the examples, and what is said of faults. assemble.py adds dvg.wasm.
 import { readFileSync, readdirSync } from 'node:fs';
 import { explainedFaults } from './advice.mjs';
 import { packedGames } from './games.mjs';
-import { FRAME_END, SCENES } from './src/playfield.mjs';
 
 const page = new URL('.', import.meta.url).pathname;
 
@@ -27,13 +25,6 @@ function sketches() {
     .map((folder) => textsOf(folder, /\.sketch$/)));
 }
 
-// The opening's sketches, as an expression: what each of their frames ends with stands there once.
-function scenes() {
-  const [folded, end] = [SCENES, FRAME_END].map((one) => JSON.stringify(one));
-  return `Object.fromEntries(Object.entries(${folded.replaceAll(end.slice(1, -1), '~')})\n`
-    + `  .map(([name, text]) => [name, text.replaceAll('~', ${end})]))`;
-}
-
 const logs = { ...textsOf('logs', /\.log$/), ...textsOf('moments', /\.log$/) };
 const constants = {
   LISTING: readFileSync(`${page}driver.listing`, 'utf8'),
@@ -45,4 +36,3 @@ const constants = {
 for (const [name, value] of Object.entries(constants)) {
   process.stdout.write(`const ${name} = ${JSON.stringify(value)};\n`);
 }
-process.stdout.write(`const SCENES = ${scenes()};\n`);

@@ -70,14 +70,14 @@ const TORN = new RegExp(
 // of those since the wire was cut, and since it was mended.
 const SOME = '[1-9][0-9]*';
 const VERDICTS = {
-  whole: /^Whole\/good by moments: .* In time\/good by halves: each byte\.$/,
-  torn: /^Torn\/bad by moments: [1-9][0-9]* of .* Early\/early by halves: [1-9][0-9]* bytes?\.$/,
-  early: /^Whole\/good by moments: .* Early\/early by halves: [1-9][0-9]* bytes?\.$/,
-  cut: new RegExp(`^Torn/bad by moments since it was cut: (${SOME}) of ${SOME} pictures?\\. `
-    + `Early/early by halves since it was cut: ${SOME} bytes\\.$`),
-  mended: new RegExp(`^Whole/good by moments since it was mended: (${SOME}) of \\1 pictures?\\. `
-    + 'In time/good by halves since it was mended: each byte\\.$'),
-  none: /^\/By moments: no run to judge\. \/By halves: no run drew a half\.$/,
+  whole: /^Whole\/good: .* In time\/good: each byte\.$/,
+  torn: /^Torn\/bad: [1-9][0-9]* of .* Early\/early: [1-9][0-9]* bytes?\.$/,
+  early: /^Whole\/good: .* Early\/early: [1-9][0-9]* bytes?\.$/,
+  cut: new RegExp(`^Torn/bad: (${SOME}) of ${SOME} pictures? since the wire was cut\\. `
+    + `Early/early: ${SOME} bytes since the wire was cut\\.$`),
+  mended: new RegExp(`^Whole/good: (each of ${SOME} pictures|1 picture) since the wire was mended`
+    + '\\. In time/good: each byte since the wire was mended\\.$'),
+  none: /^\/No picture to judge\. \/$/,
 };
 
 // The browser, its tab, and what earlier tabs asked of the network.
@@ -421,7 +421,7 @@ async function testAbandoned() {
     const [{ className }] = document.getElementById('left').children;
     return className + document.getElementById('left').textContent;
   })()`);
-  expect('what strobes cut short is bad', /^badAbandoned: [1-9][0-9]* runs, cut short\.$/,
+  expect('what strobes cut short is bad', /^badAbandoned: [1-9][0-9]* runs\.$/,
     await left());
   await runSeed(1, 'ignored');
   expect('ignored strobes let pictures be torn', / [1-9][0-9]* torn .* 0 runs abandoned/,
@@ -430,7 +430,7 @@ async function testAbandoned() {
     await tab.value('document.getElementById("left").checkVisibility()'));
   await tab.click('wire');
   await runSeed(2, 'resets');
-  expect('what resets cut short isn\'t', /^Abandoned: [1-9][0-9]* runs?, cut short\.$/,
+  expect('what resets cut short isn\'t', /^Abandoned: [1-9][0-9]* runs?\.$/,
     await left());
 }
 
@@ -831,11 +831,11 @@ async function testUnjudged() {
     .map((name) => readFileSync(`${top}examples/moments/${name}.log`, 'utf8'));
   const zeroAlone = (log) => log.replace(/^(low|fetched) (?!000).*\n/gm, '');
   const logs = {
-    'zero.log': [zeroAlone(whole), /^\/By moments: no run to judge\. In time\/good /],
-    'early.log': [zeroAlone(torn), /^\/By moments: no run to judge\. Early\/early /],
-    'open.log': [torn.replace(/^halted\n/gm, ''), /^\/By moments: no run to judge\. Early\/early /],
+    'zero.log': [zeroAlone(whole), /^\/No picture to judge\. In time\/good: /],
+    'early.log': [zeroAlone(torn), /^\/No picture to judge\. Early\/early: /],
+    'open.log': [torn.replace(/^halted\n/gm, ''), /^\/No picture to judge\. Early\/early: /],
     'none.log': [torn.replace(/^(low|fetched) .*\n/gm, ''), VERDICTS.none],
-    'short.log': ['started\nlow 1FF 05\nhalted\n', /^Whole\/good by moments: 1 picture\. /],
+    'short.log': ['started\nlow 1FF 05\nhalted\n', /^Whole\/good: 1 picture\. /],
   };
   for (const [name, [log, wanted]] of Object.entries(logs)) {
     await tab.drop('screen', put(name, log));
@@ -1155,7 +1155,7 @@ async function testTour() {
   expect('so say both verdicts', VERDICTS.cut, await verdicts());
   expect('the run has ended', 'Run', await tab.text('run'));
   expect('what the colours and the ring mean is said',
-    /Red came .* ring marks where the tear begins\. With the wire/, await tab.text('tour-text'));
+    /red, dashed .* ring marks where the tear begins\. With the wire/, await tab.text('tour-text'));
   expect('the tear is told', /^Event ([0-9]+) wrote a byte while .*Event [0-9]+ read it: there /,
     await tab.text('tear-text'));
   expect('and its byte', / It wrote .. over .. into byte /, await tab.text('tear-text'));
@@ -1195,7 +1195,7 @@ async function testMend() {
   await expectTour('the tour ends', '1 of 3: Whole', '2 of 3: Cut', '3 of 3: Torn');
   await tab.click('wire');
   expect('mended, nothing is judged yet',
-    /^\/By moments: no run to judge since it was mended\. \/By halves: no run drew a half since /,
+    /^\/No picture to judge since the wire was mended\. \/$/,
     await verdicts());
   await tab.click('run');
   await expectSoon('each picture since is whole', VERDICTS.mended, verdicts);
@@ -1417,7 +1417,7 @@ async function testKeys() {
   expect('two events on', 'Event 1 of 2600: the driver is told that the generator is halted. '
     + 'tick: read halted', await tab.text('moment-text'));
   await tab.key('End');
-  expect('End: the newest event', /^Event 2599 of 2600/, await tab.text('moment-text'));
+  expect('End: the newest event', /^Event 2,599 of 2,600/, await tab.text('moment-text'));
   await tab.value('document.getElementById("memory").focus()');
   await tab.key('ArrowRight');
   await tab.key('ArrowRight');
@@ -1502,7 +1502,7 @@ async function testOnAndOn() {
   await expectSoon('the seed after the next one', '9',
     () => tab.value('document.getElementById("seed").value'));
   expect('it runs', 'Stop', await tab.text('run'));
-  expect('that is said', 'On and on; grey waits for Stop.', await tab.text('run-text'));
+  expect('that is said', 'On and on. Stop to use the grey buttons.', await tab.text('run-text'));
   await tab.click('run');
   expect('it has room again', true,
     Number(/^event ([0-9]+) /.exec(await tab.text('counts'))[1]) < 65536);
@@ -1555,7 +1555,7 @@ async function testLive() {
   for (const step of ['back', 'picture-back', 'now', 'back', 'back']) {
     await tab.click(step);
     const read = await readOf('moment-text');
-    expect(`after ${step}: words`, /^Event [0-9]+ of 2600: the (driver|generator) [a-z]+/, read);
+    expect(`after ${step}: words`, /^Event [0-9,]+ of 2,600: the (driver|generator) [a-z]+/, read);
     expect(`after ${step}: nothing hexadecimal`, false, HEXADECIMAL.test(read));
     expect(`after ${step}: so says the slider`, read,
       await tab.value('document.getElementById("rows").getAttribute("aria-valuetext")'));
@@ -1596,7 +1596,7 @@ async function testPlain() {
     expect(`${state}: something is hexadecimal`, true, await seen() !== '');
     await tab.click('plain');
     expect(`${state}: with plain words nothing is`, '', await seen());
-    expect(`${state}: the moment is told`, /^Event [0-9]+ of /, await readOf('moment-text'));
+    expect(`${state}: the moment is told`, /^Event [0-9,]+ of /, await readOf('moment-text'));
     await tab.click('plain');
   }
   await tab.click('plain');
@@ -1986,7 +1986,7 @@ async function testByteOfGame() {
   expect('it is told', new RegExp('^At [0-9]+[.][0-9]{4} s a byte came early, by the driver, '
     + '6[89A][0-9A-F]{2}: sta .*[.] It wrote [0-9A-F]{2} over [0-9A-F]{2} into byte [0-9A-F]{3}, '
     + 'the (low|high) byte of word [0-9A-F]{3}[.] [0-9]+[.][0-9]{2} ms later the generator read '
-    + 'it: there the tear begins[.] [1-9][0-9]* of [0-9]+ strokes are red: '),
+    + 'it: there the tear begins[.] [1-9][0-9]* of [0-9]+ strokes are red and dashed: '),
   await tab.text('past-text'));
   const { found, red } = await tab.value(LIT);
   expect('a part of the picture is red', true, red.length > 20 && found.length > red.length + 20);

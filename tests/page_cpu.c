@@ -1,6 +1,6 @@
 /* Steps of the 6502 of board_cpu.h from random states, for the page's 6502 beside it:
  *
- *     page_cpu STEPS
+ *     page_cpu TRIES SEED
  *
  * After each 10,000 tries it prints how many steps were done and a digest of all that they left:
  * registers, flags, cycles, and each byte written. tests/page_games.mjs does the same steps. With
@@ -18,7 +18,7 @@
 enum { REPORT_EVERY = 10000 };
 
 static uint8_t memory[0x10000];
-static uint32_t digest, state = 12345;
+static uint32_t digest, state;
 
 static uint32_t drawn(void)
 {
@@ -75,7 +75,8 @@ static int try_step(void)
 
 int main(int count, char **words)
 {
-    long wanted = count > 1 ? atol(words[1]) : 0, steps = 0;
+    long wanted = count > 2 ? atol(words[1]) : 0, steps = 0;
+    if (wanted > 0) state = (uint32_t)strtoul(words[2], NULL, 10);
     ready_opcodes();
     for (int at = 0; at < 0x10000; at++) memory[at] = (uint8_t)drawn();
     for (long tries = 1; tries <= wanted; tries++) {

@@ -5,7 +5,8 @@
 //
 // FOLDER is for what is thrown away. Where tests are named, they alone are run, up to the first
 // failure. PROGRAMS says how many programs the checker answers about, changed at random [240], and
-// TRIES how many random states the 6502 has [1000000]. The last line is 'N passed, M failed'.
+// TRIES how many random states the 6502 has [1000000], by SEED. The last line is 'N passed, M
+// failed'.
 import { spawnSync } from 'node:child_process';
 import { createHash } from 'node:crypto';
 import {
@@ -77,12 +78,13 @@ const GAMES = new Map(packedGames().map(({ folder, bytes, vectors, shapes }) => 
 
 // How many random states the 6502 has, of which three in five begin with an opcode.
 const TRIES = Number(process.env.TRIES || (isShort ? 100000 : 1000000));
+const SEED = Number(process.env.SEED || 12345), STEPS_ASKED = [TRIES, SEED].map(String);
 
 // Steps of the page's 6502 from random states, as page_cpu.c has them: a line after each 10,000.
 // Those of sim65 are BRK and RTI alone.
 function digestsOfSteps(isSim65 = false) {
   const memory = new Uint8Array(0x10000), lines = [];
-  const drawn = numbersFrom(12345);
+  const drawn = numbersFrom(SEED);
   let digest = 0, steps = 0;
   const mix = (value) => { digest = (Math.imul(digest, 31) + value) >>> 0; };
   const cpu = new Processor({
@@ -116,7 +118,7 @@ function testSteps() {
     [...OPCODES.keys()].sort((a, b) => a - b));
   const made = spawnSync('gcc', ['-O2', '-o', `${work}/page_cpu`, `${top}tests/page_cpu.c`]);
   if (made.error) return console.log('skipped: steps of the 6502 of board_cpu.h: gcc is not here');
-  const { stdout } = spawnSync(`${work}/page_cpu`, [String(TRIES)]);
+  const { stdout } = spawnSync(`${work}/page_cpu`, STEPS_ASKED);
   const lines = digestsOfSteps();
   expect('steps of the 6502', stdout.toString().trim().split('\n'), lines);
   const [steps] = lines.at(-1).split(' ');
@@ -131,7 +133,7 @@ function testBreakSteps() {
   if (made.error || !existsSync(`${source}/6502.c`)) {
     return console.log('skipped: BRK beside sim65: its source is not here (board/install sim65)');
   }
-  const { stdout } = spawnSync(`${work}/page_sim65`, [String(TRIES)]);
+  const { stdout } = spawnSync(`${work}/page_sim65`, STEPS_ASKED);
   const lines = digestsOfSteps(true), [steps] = lines.at(-1).split(' ');
   expect('steps of BRK and RTI', stdout.toString().trim().split('\n'), lines);
   return console.log(`BRK and RTI beside sim65: ${steps} steps, with cycles`);

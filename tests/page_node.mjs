@@ -428,7 +428,7 @@ function testMended() {
 
 // The verdicts of a board count the runs that began with this event or later.
 function testSince(what, board, from, changed) {
-  const since = sinceOf(board), text = ` since it was ${changed}`;
+  const since = sinceOf(board), text = ` since the wire was ${changed}`;
   expect(`${what}: since when`, `${from}${text}`, `${since.at}${since.text}`);
   const early = board.entries.filter((entry) => entry.early && entry.run >= from);
   const first = board.entries.findIndex((entry) => entry.early && entry.run >= from);
@@ -437,10 +437,12 @@ function testSince(what, board, from, changed) {
   const now = board.pictures.filter((picture) => picture.from >= from);
   const torn = now.filter((picture) => picture.torn);
   const all = board.pictures.filter((picture) => picture.torn);
-  const number = `${torn.length > 0 ? torn.length : now.length} of ${now.length} picture`;
-  const word = torn.length > 0 ? 'Torn' : 'Whole', moments = momentsVerdict(board, since);
-  if (now.length > 0) expect(`${what}: by moments`, `${word} by moments${text}: ${number}`,
-    `${moments.word}${moments.text}`.replace(/s?\.$/, ''));
+  const count = `${now.length} picture${now.length === 1 ? '' : 's'}`;
+  const each = now.length === 1 ? `Whole: ${count}` : `Whole: each of ${count}`;
+  const number = torn.length > 0 ? `Torn: ${torn.length} of ${count}` : each;
+  const moments = momentsVerdict(board, since);
+  if (now.length > 0) expect(`${what}: by moments`, `${number}${text}.`,
+    `${moments.word}${moments.text}`);
   expect(`${what}: the sum`, now.length === board.pictures.length ? ''
     : `In all ${all.length} of ${board.pictures.length} torn.`, moments.sum);
   const halves = halvesVerdict(board, since);

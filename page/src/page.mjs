@@ -21,14 +21,15 @@ import { DraftEditor, RomEditor } from './editors.mjs';
 import { listenToFiles, listenToMemory, listenToRows, listenToSizes } from './gestures.mjs';
 import { Verdicts, compareWithPlay } from './verdicts.mjs';
 import {
-  HOW_TEXT, ONE_HALF_TEXT, counted, countsText, durationText, instructionText, leftText,
+  HOW_TEXT, ONE_HALF_TEXT, counted, countsText, durationText, grouped, instructionText, leftText,
   momentCode, momentText, pictureText, runText, wordCode, wordText,
 } from './words.mjs';
 import { builtGame, isOfGame } from './eproms.mjs';
 import { Play, listenToPlay } from './play.mjs';
 import { DRIVER_END, START } from './tables.mjs';
 import { linesOfListing } from './twin.mjs';
-import { ADVICE, FILES, FRAMES, GAMES, LISTING, SCENES, WASM } from './built.mjs';
+import { SCENES } from './playfield.mjs';
+import { ADVICE, FILES, FRAMES, GAMES, LISTING, WASM } from './built.mjs';
 
 /* What stands in the editors by a name. */
 const EXAMPLES = { ...SCENES, ...FRAMES };
@@ -43,7 +44,7 @@ const OPENING_HASH = '#opening';
 const FIRST_GAME = plainFragment({ game: GAMES[0].name });
 const LOG_BEFORE = 12, LOG_AFTER = 4;
 /* Why what is grey is so: of a recording, and of a board with as many events as it holds. */
-const ELSEWHERE = 'This happened elsewhere: it can\'t be run, cut or added to.';
+const ELSEWHERE = 'This is a recording: it can be looked at, not run.';
 const FULL = '65,536 events are the most: begin anew, or run on and on.';
 /* The largest seed. */
 const MOST_SEED = 4294967295;
@@ -228,7 +229,7 @@ function animate() {
   const begin = performance.now(), passed = Math.min(MOST_PASSED, begin - animatedAt);
   animatedAt = begin;
   const wanted = Math.max(1, Math.round(rateNow() * passed / 1000));
-  toGo -= runSome(Math.min(toGo, wanted), begin + 3);
+  toGo -= runSome(Math.min(toGo, wanted, tour.running ? tour.room(board) : Infinity), begin + 3);
   rows.follow(at);
   if (begin - verdicts.judgedAt > JUDGE_EVERY) judge();
   show();
@@ -236,7 +237,7 @@ function animate() {
   if (board.full && isEndless()) beginNext();
   if (toGo <= 0 || board.full) setRunning(false);
   else requestAnimationFrame(animate);
-  if (tour.running) tour.pass(begin, board);
+  if (tour.running) tour.pass(board);
 }
 
 function wantsLessMotion() {
@@ -307,6 +308,15 @@ function tearNow(picture) {
   if (picture === null || !(picture.torn || picture.seen > 0)) return null;
   picture.tear ??= tearOf(engine, shown, picture, drawingOf);
   return picture.tear;
+}
+
+/* Whether both frames of a torn picture are of the opening's scene, which begins in editor A and
+ * ends in B: from there to A it jumps. */
+function isOneScene(picture) {
+  const { wanted, draft } = tearNow(picture);
+  const isOf = (editor, name) => name?.endsWith(`of ${editor.place.id}`) ?? false;
+  return draft !== null && (isOf(editorA, nameOf({ strokes: wanted, at: picture.at }))
+    || isOf(editorB, nameOfDraft(draft)));
 }
 
 /* --- What is shown --- */
@@ -380,14 +390,17 @@ function whyNoRun() {
   const fault = [editorA, editorB].find(({ offerable }) => !offerable);
   if (shown !== board) return ELSEWHERE;
   if (board.full && !isEndless()) return FULL;
-  return fault && !running ? `Run waits for frame ${fault.place.id}, which spells nothing to offer.`
+  return fault && !running ? `Frame ${fault.place.id} has a mistake (below). Mend it, then Run.`
     : '';
 }
 
 /* What Run does, and for how long. */
 function textOfRun() {
-  const left = running ? toGo : countOfRun(), count = counted(left, 'event');
-  if (running) return `${isEndless() ? 'On and on' : `${count} to go`}; grey waits for Stop.`;
+  const left = running ? toGo : countOfRun();
+  const count = `${grouped(left)} event${left === 1 ? '' : 's'}`;
+  if (running) {
+    return `${isEndless() ? 'On and on' : `${count} to go`}. Stop to use the grey buttons.`;
+  }
   if (isEndless()) return 'Run: on and on, anew after each 65,536 events.';
   return `Run: ${count}, in ${durationText(left / rateNow())}.`;
 }
@@ -701,7 +714,7 @@ function showStill() {
 }
 
 function startTour() {
-  tour.begin(performance.now());
+  tour.begin(board);
   rows.scale = ROWS_TOUR_SCALE;
   setRunning(true);
 }
@@ -1127,7 +1140,7 @@ async function begin() {
   rows = new Rows(byId('rows'));
   memory = new Memory(byId('memory'));
   tour = new Tour({
-    setWire, tearOf: tearNow, showTear: showLastStep,
+    setWire, tearOf: tearNow, isOneScene, showTear: showLastStep,
   });
   readColors();
   makeEditors();

@@ -81,7 +81,7 @@ function shapeLines() {
 }
 
 /* What each frame ends with: the saucer and all shapes. */
-export const FRAME_END = [...linesOfPath(SAUCER, 9, 1, 14), 'halt', ...shapeLines()].join('\n');
+const FRAME_END = [...linesOfPath(SAUCER, 9, 1, 14), 'halt', ...shapeLines()].join('\n');
 
 /* One frame of the playfield, by its time. */
 function frameLines(time) {

@@ -5,9 +5,9 @@ import { AREA, ROW, SIGN } from './signs.mjs';
 const ABOVE = 25, BETWEEN = 14, BELOW = 20;
 const LEAST_SCALE = 1 / 64, MOST_SCALE = 24;
 
-/* The colours of pictures, by their signs. */
+/* The colours of pictures, by their signs; a torn one is a cross, all others are dots. */
 const DONE_COLORS = {
-  [SIGN.DONE]: 'good', [SIGN.EARLY_DONE]: 'early', [SIGN.TORN_DONE]: 'torn',
+  [SIGN.DONE]: 'good', [SIGN.EARLY_DONE]: 'early',
 };
 
 /* The areas, weakest first: of several events in one column the strongest is shown. */
@@ -117,6 +117,11 @@ export class Rows {
     });
     this.fillSpans(early, first - 6, second + height + 6 - first, (mark) => colors.glows[mark]);
     this.fillSpans(early, second, height, (mark) => (mark === 2 ? colors.torn : colors.early));
+    // So a byte that shows has two.
+    const shows = early.map((mark) => Number(mark === 2));
+    for (const part of [0.3, 0.7]) {
+      this.fillSpans(shows, second + part * height - 1, 2, () => colors.field);
+    }
   }
 
   fillSpans(column, top, height, colorOf) {
@@ -159,6 +164,18 @@ export class Rows {
     context.stroke();
   }
 
+  cross(x, y, color) {
+    const { context } = this;
+    context.strokeStyle = color;
+    context.lineWidth = 2.5;
+    context.beginPath();
+    for (const way of [4, -4]) {
+      context.moveTo(x - 4, y - way);
+      context.lineTo(x + 4, y + way);
+    }
+    context.stroke();
+  }
+
   drawSign(sign, x, top, colors) {
     const { context } = this;
     if (sign === SIGN.FLIP) {
@@ -169,6 +186,8 @@ export class Rows {
       context.lineTo(x + 0.5, top);
       context.fill();
       context.fillRect(x, top, 1.5, this.rowHeight);
+    } else if (sign === SIGN.TORN_DONE) {
+      this.cross(x + 1, top - 6, colors.torn);
     } else if (DONE_COLORS[sign] !== undefined) {
       context.fillStyle = colors[DONE_COLORS[sign]];
       context.beginPath();

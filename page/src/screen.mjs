@@ -6,6 +6,8 @@ const MARGIN = 10 * UNIT;
 /* A stroke has several widths, in units: in each it is so strong. */
 const WIDTHS = [[10, 0.09], [5.5, 0.22], [2.1, 1]];
 const THIN = [[1.6, 1]], SMALL = [[12, 0.15], [4, 1]];
+/* How long a dash is and the gap behind it: so who sees no colours tells strokes apart. */
+const DASH = 9 * UNIT, GAP = 9 * UNIT;
 /* How many levels of light are a strength of 1, and how many steps of distance a pixel. */
 const STRENGTH_LEVELS = 194, PIXEL_STEPS = 16;
 
@@ -23,6 +25,16 @@ function linesOfStroke([x0, y0, x1, y1]) {
     for (const dy of y === y1 ? [0] : [0, y1 - y]) lines.push([x0 + dx, y0 + dy, x + dx, y + dy]);
   }
   return lines;
+}
+
+/* The dashes of a line. */
+function dashesOf([x0, y0, x1, y1]) {
+  const length = Math.hypot(x1 - x0, y1 - y0), step = (DASH + GAP) / length, dashes = [];
+  for (let from = 0; from < 1; from += step) {
+    const to = Math.min(1, from + DASH / length), at = (a, b, part) => a + (b - a) * part;
+    dashes.push([at(x0, x1, from), at(y0, y1, from), at(x0, x1, to), at(y0, y1, to)]);
+  }
+  return dashes;
 }
 
 /* The levels of light by the distance from a stroke, at a scale of pixels; the last one is 0. */
@@ -97,13 +109,14 @@ class Light {
     return this.made.get(key);
   }
 
-  /* Strokes in a colour, of which the brightest are so strong. */
-  add(strokes, color, strength, widths = WIDTHS) {
+  /* Strokes in a colour, of which the brightest are so strong; or their dashes. */
+  add(strokes, color, strength, widths = WIDTHS, isDashed = false) {
     const palette = paletteOf(color), byZ = [];
     for (const stroke of strokes) {
       const z = stroke[4];
       const levels = byZ[z] ??= this.levelsFor(widths, strength * (0.4 + 0.6 * z / 15));
-      for (const [x0, y0, x1, y1] of linesOfStroke(stroke)) {
+      const lines = linesOfStroke(stroke);
+      for (const [x0, y0, x1, y1] of isDashed ? lines.flatMap(dashesOf) : lines) {
         this.line(this.across(x0), this.down(y0), this.across(x1), this.down(y1), levels, palette);
       }
     }
@@ -209,13 +222,13 @@ export class Screen {
     else this.addTear(picture, tear);
   }
 
-  /* A torn picture: the strokes of the frame that was being drawn, in red all others, and both
-   * frames behind them as ghosts; a ring is where the first red one begins. */
+  /* A torn picture: the strokes of the frame that was being drawn, in red and dashed all others,
+   * and both frames behind them as ghosts; a ring is where the first red one begins. */
   addTear({ strokes }, { wanted, next, wrong }) {
     const { light } = this;
     light.add(wanted, GHOSTS[0], 0.6, THIN);
-    light.add(next, GHOSTS[1], 0.6, THIN);
+    light.add(next, GHOSTS[1], 0.6, THIN, true);
     light.add(strokes.filter((stroke) => !wrong.includes(stroke)), BEAM, 0.8);
-    light.add(wrong, TORN, 1);
+    light.add(wrong, TORN, 1, WIDTHS, true);
   }
 }

@@ -97,7 +97,7 @@ export function tearText({ wrong, word: { event, read } }, picture) {
 /* How much of a torn picture is red. */
 export function redText(wrong, { strokes: { length } }) {
   return length === 0 ? 'The run drew no stroke.' : `${wrong.length} of ${length} strokes are `
-    + 'red: they aren\'t of the frame that the run began with.';
+    + 'red and dashed: they aren\'t of the frame that the run began with.';
 }
 
 /* The byte that came in between, as a log has it. */

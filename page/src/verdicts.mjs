@@ -6,12 +6,12 @@ import { SIGN } from './signs.mjs';
 import { traceOf } from './traces.mjs';
 import { counted } from './words.mjs';
 
-/* From which event on the runs began that are judged, and that in words: since the wire, whose
- * button stands above, was last changed, if it was. */
+/* From which event on the runs began that are judged, and that in words: since the wire was last
+ * changed, if it was. */
 export function sinceOf({ wires, runs }) {
   const wire = wires.at(-1);
   return wire === undefined || wire.at === 0 ? { at: 0, text: '' }
-    : { at: runs.since.at, text: ` since it was ${wire.cut ? 'cut' : 'mended'}` };
+    : { at: runs.since.at, text: ` since the wire was ${wire.cut ? 'cut' : 'mended'}` };
 }
 
 /* By moments: a word with its colour, what it says of so many pictures, where to look, and the sum
@@ -23,18 +23,15 @@ export function momentsVerdict({ pictures, runs }, since) {
   const more = contradictions === 0 ? '' : ` ${counted(contradictions, 'fetch', 'fetches')} read `
     + 'what was not written: somebody writes who isn\'t in the log.';
   const sum = all.length === now.length ? '' : `In all ${torn.length} of ${all.length} torn.`;
-  const begin = ` by moments${since.text}: `, count = counted(now.length, 'picture');
-  if (now.length === 0) {
-    return { word: '', color: '', text: `By moments: no run to judge${since.text}.${more}`, sum };
-  }
+  const end = `${since.text}.${more}`, count = counted(now.length, 'picture');
+  if (now.length === 0) return { word: '', color: '', text: `No picture to judge${end}`, sum };
   if (tornNow.length > 0) {
-    return { word: 'Torn', color: 'bad', text: `${begin}${tornNow.length} of ${count}.${more}`,
+    return { word: 'Torn', color: 'bad', text: `: ${tornNow.length} of ${count}${end}`,
       at: tornNow[0].at, sum };
   }
   const each = now.length === 1 ? '1 picture' : `each of ${count}`;
-  const what = since.at === 0 ? each : `${now.length} of ${count}`;
   const found = contradictions === 0 ? { color: 'good' } : { color: 'bad', at: contradicts };
-  return { word: 'Whole', text: `${begin}${what}.${more}`, sum, ...found };
+  return { word: 'Whole', text: `: ${each}${end}`, sum, ...found };
 }
 
 /* By halves: the same of the bytes that came early, where a run drew a half. */
@@ -43,12 +40,12 @@ export function halvesVerdict({ early, runs }, since) {
   const sum = early === counts.early ? '' : `In all ${counted(early, 'byte')} early.`;
   if (counts.early > 0) {
     return { word: 'Early', color: 'early', at: counts.first, sum,
-      text: ` by halves${since.text}: ${counted(counts.early, 'byte')}.` };
+      text: `: ${counted(counts.early, 'byte')}${since.text}.` };
   }
   if (counts.drew > 0) {
-    return { word: 'In time', color: 'good', text: ` by halves${since.text}: each byte.`, sum };
+    return { word: 'In time', color: 'good', text: `: each byte${since.text}.`, sum };
   }
-  return { word: '', color: '', text: `By halves: no run drew a half${since.text}.`, sum };
+  return { word: '', color: '', text: `No run drew a half${since.text}.`, sum };
 }
 
 /* The runs that were abandoned, or null where none was. That a strobe did it is bad. */
@@ -57,7 +54,7 @@ export function leftVerdict(board, since) {
   if (left.length === 0) return null;
   const isBad = left.some((at) => board.signs[at] === SIGN.ANEW);
   return { word: 'Abandoned', color: isBad ? 'bad' : '', at: left.at(-1), sum: '',
-    text: `${since.text}: ${counted(left.length, 'run')}, cut short.` };
+    text: `: ${counted(left.length, 'run')}${since.text}.` };
 }
 
 /* Whether the whole log of a board is what `play --all` writes for the same events, up to a cut
@@ -91,8 +88,9 @@ export class Verdicts {
     this.judgedOf = key;
     const isDump = shown.verdict !== undefined, since = sinceOf(shown);
     byId('verdicts').hidden = isDump;
-    this.show('moments', momentsVerdict(shown, since));
-    this.show('halves', halvesVerdict(shown, since));
+    const moments = momentsVerdict(shown, since), halves = halvesVerdict(shown, since);
+    this.show('moments', moments);
+    this.show('halves', moments.word + halves.word === '' ? { ...halves, text: '' } : halves);
     const left = leftVerdict(shown, since);
     byId('left').parentElement.hidden = left === null;
     if (left !== null) this.show('left', left);

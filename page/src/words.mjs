@@ -8,6 +8,9 @@ export function counted(number, one, many = `${one}s`) {
   return `${number} ${number === 1 ? one : many}`;
 }
 
+/* A number in groups of three digits. */
+export const grouped = (number) => number.toLocaleString('en');
+
 /* A time in seconds, roughly. */
 export function durationText(seconds) {
   return seconds < 1 ? 'less than a second' : `about ${counted(Math.round(seconds), 'second')}`;
@@ -149,7 +152,8 @@ export function momentText(board, at) {
   const seen = board.signs[at - 1] === SIGN.SEEN ? ', and it shows' : '';
   const early = entry.early ? `, into the half that is being drawn${seen}` : '';
   const line = entry.line ? `, line ${entry.line}` : '';
-  return `Event ${at - 1} of ${board.length}${line}: ${eventText(entry)}${early}.`;
+  return `Event ${grouped(at - 1)} of ${grouped(board.length)}${line}: ${eventText(entry)}`
+    + `${early}.`;
 }
 
 /* The same event as a log has it. */
