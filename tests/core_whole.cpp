@@ -4,9 +4,9 @@
  *     core_whole SWITCHES BUTTONS RAMS START.. >WRITES
  *
  * It runs where program.hex and rom.hex are. SWITCHES is a hexadecimal number, the lowest two bits
- * those of 2800. BUTTONS is a file of presses (core_buttons.h): each comes with the first frame of
- * the emulator after its time, of which one has four NMIs. RAMS has 2,048 bytes for each of the
- * generator's starts, up to the last START or farther: the vector RAM at that start.
+ * those of 2800. BUTTONS is a file of presses (core_buttons.h): each comes with the emulator's
+ * first frame that isn't before its time; a frame has four NMIs. RAMS has 2,048 bytes for each of
+ * the generator's starts, up to the last START or farther: the vector RAM at that start.
  *
  * START.shown is what the monitor shows of the run that begins at the start of that number, from 1:
  * the first frame of the monitor that begins after that run, as a grey PGM of 640 by 480 pixels.
@@ -17,6 +17,7 @@
  * bytes differ (status 1), and to standard output what else does (status 1). */
 #include "Vcore_whole.h"
 #include "Vcore_whole___024root.h"
+#include <cmath>
 #include <string>
 #include "core_buttons.h"
 #include "core_tmds.h"
@@ -35,11 +36,10 @@ static uint64_t starts, alike;          /* of the generator, so far; those with 
 enum { BUTTONS = INPUTS - 1 };
 static size_t presses_done;
 
-/* A press comes with the first frame of the emulator after its time. */
+/* A press comes with the emulator's first frame that isn't before its time. */
 static uint64_t clock_of(double second)
 {
-    uint64_t frame = uint64_t(second * FRAMES_A_SECOND) + 1;
-    return uint64_t(double(frame) * 4 * CLOCKS_OF_NMI);
+    return uint64_t(std::ceil(second * FRAMES_A_SECOND) * 4 * CLOCKS_OF_NMI);
 }
 
 /* The pins of buttons and switch. The first button's is low while it is pressed. */
