@@ -138,7 +138,7 @@ fn complain_of_log<R>(
     let before = number.saturating_sub(1);
     match known_before(rule) {
         Some(known) if before > 0 => {
-            let _ = eprintln!(rt; "dvg: {known}; head -n {before} keeps these lines, to count them");
+            let _ = eprintln!(rt; "dvg: {known}; for the counts, judge only head -n {before}");
         }
         _ => {}
     }
