@@ -383,7 +383,6 @@ def test_failing():
 #: The requests whose answers are whole numbers, each bit of which says something.
 NUMBERS = {g._Request[name] for name in (
     "STROKES", "STROKE_FROM", "STROKE_TO", "STROKE_INTENSITY", "MOVE_TO", "BEAM", "STATE",
-    "DRIVER", "OPERATION",
 )}
 
 
@@ -520,6 +519,13 @@ def test_run_to_halt():
         later.strobe()
         error = raised(later.run_to_halt, words(0xE000) * 1024, None, 9)
         expect(type(error) is g.Endless and error.words == 9, f"a run without an end: {error!r}")
+        endless = words(0x9064, 0x7464, 0xE000).ljust(2048, b"\0")
+        later.strobe()
+        expect_raises(g.Endless, lambda: later.run_to_halt(endless, None, 1500), "and a longer one")
+        whole.restore(later.save())
+        expect(whole.take_strokes() == later.take_strokes() != [], "a state of many strokes")
+        expect_raises(g.Endless, lambda: later.run_to_halt(endless, None, 1500), "it goes on")
+        expect(len(later.take_strokes()) == 500, "and draws as many")
     del error
     expect_none_left("runs to the HALT")
 

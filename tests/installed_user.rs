@@ -278,7 +278,7 @@ fn run_generator_to_halt() -> Result<(), Box<dyn Error>> {
     Ok(())
 }
 
-/// What has a text: each operation of a draft, which a reader reads again, an instruction, a stroke.
+/// What has a text: the operations of a draft, which are read again, instructions and strokes.
 fn texts() -> Result<(), Box<dyn Error>> {
     let text = "labs 4095 0 15\nvctr 9 -1023 1023 15\nsvec 5 3 -3 0\ncallrom FFF\njumprom 00A\n\
         call 65535\njump 5\nreturn\nhalt\n";

@@ -1,6 +1,6 @@
-//! What Rust's users have beside the sources: defaults, a refusal as an error, a stroke as a text, a
-//! run to its end, a saved state as bytes and why bytes are none, what serde reads and writes of a
-//! state, and reads of strokes, moves, the beam and counters, looked at. By hand; tested, not
+//! What Rust's users have beside the sources: defaults, a refusal as an error, a stroke as a text,
+//! a run to its end, a saved state as bytes and why bytes are none, what serde reads and writes of
+//! a state, and reads of strokes, moves, the beam and counters, looked at. By hand; tested, not
 //! proved.
 use crate::generator::Generator;
 use crate::state::{GeneratorRefused, GeneratorState};
@@ -134,11 +134,11 @@ impl Display for Stroke {
 }
 
 impl<A: Allocator + Copy> Generator<A> {
-    /// Lets the open run go on until it ends, `most_words` words at most. `byte_at` returns the byte
-    /// at an address: twice that of its word, and 1 more for the high one; `None` where no memory
-    /// answers. Returns the last step: `Done`, `Broke`, or another one if the run didn't end within
-    /// these words; `None` if no run is open, or for no word. Returns `OutOfMemory` where a step is
-    /// refused memory: the same byte is still wanted.
+    /// Lets the open run go on until it ends, `most_words` words at most. `byte_at` returns the
+    /// byte at an address: twice that of its word, and 1 more for the high one; `None` where no
+    /// memory answers. Returns the last step: `Done`, `Broke`, or another one if the run didn't end
+    /// within these words; `None` if no run is open, or for no word. Returns `OutOfMemory` where a
+    /// step is refused memory: the same byte is still wanted.
     pub fn run_to_halt(
         &mut self,
         most_words: u32,
