@@ -1770,6 +1770,11 @@ async function testHands() {
   expect('fire is down', true, await asks('fire'));
   await tab.mouse('mouseReleased', x, y, { button: 'left', clickCount: 1 });
   expect('and up again', false, await asks('fire'));
+  const touch = (type, touchPoints) => tab.send('Input.dispatchTouchEvent', { type, touchPoints });
+  await touch('touchStart', [{ x, y }]);
+  await expectSoon('so it is by a finger', true, () => asks('fire'));
+  await touch('touchEnd', []);
+  await expectSoon('until it is lifted', false, () => asks('fire'));
   await openGame(5);
   await tab.until('/, [1-9]\\.[0-9] s/.test(document.getElementById("run-counts").textContent)');
   const before = await picturesSeen();
@@ -1933,6 +1938,22 @@ const PIXELS_OF_ROWS = `(() => {
   return found;
 })()`;
 
+// Into how many parts a byte that shows is divided in them, by lines.
+const BANDS_OF_TORN = `(() => {
+  const canvas = document.getElementById('past'), { width, height } = canvas;
+  const torn = getComputedStyle(document.documentElement).getPropertyValue('--torn').trim();
+  const { data } = canvas.getContext('2d').getImageData(0, height / 2, width, height / 2);
+  const isTorn = (x, y) => '#' + [0, 1, 2].map((k) => (
+    data[4 * (y * width + x) + k].toString(16).padStart(2, '0'))).join('') === torn;
+  let most = 0;
+  for (let x = 0; x < width; x++) {
+    let bands = 0;
+    for (let y = 1; y < height / 2; y++) if (isTorn(x, y) && !isTorn(x, y - 1)) bands++;
+    most = Math.max(most, bands);
+  }
+  return most;
+})()`;
+
 const isHidden = (id) => tab.value(`document.getElementById('${id}').hidden`);
 
 // Below a game are its last seconds: both halves in both rows. A key leads back, and the game rests
@@ -1991,6 +2012,7 @@ async function testByteOfGame() {
   const { found, red } = await tab.value(LIT);
   expect('a part of the picture is red', true, red.length > 20 && found.length > red.length + 20);
   expect('the rows show it', true, (await tab.value(PIXELS_OF_ROWS))[1].torn > 0);
+  expect('by lines, too, for who sees no colours', 3, await tab.value(BANDS_OF_TORN));
   writeFileSync(`${work}/page_game_byte.png`, await tab.screenshot());
   await tab.click('pause');
   await expectSoon('it goes on, all red', true, async () => {

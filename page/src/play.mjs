@@ -91,12 +91,10 @@ export class Play extends Player {
     const files = await unzipped(list), game = gameOf(files);
     if (game === null) return false;
     const name = list.map((file) => file.name).join(', ');
-    const rom = game.shapes ?? new Uint8Array(2048);
-    const shapes = game.shapes === null ? ' Its vector ROM isn\'t among them, so it calls nothing: '
-      + 'drop both at once.' : '';
-    const missing = game.missing.replace(/,? ?NP3$/, '');
-    const sockets = missing === '' ? '' : ` ${missing} of its sockets aren't among them.`;
-    this.begin(name, { ...game, shapes: rom }, `${name}.${sockets}${shapes}`);
+    const shapes = game.hasShapes ? '' : ' Its vector ROM isn\'t among them, so it calls nothing: '
+      + 'drop both at once.';
+    const sockets = game.missing === '' ? '' : ` ${game.missing} of its sockets aren't among them.`;
+    this.begin(name, game, `${name}.${sockets}${shapes}`);
     return true;
   }
 
