@@ -775,7 +775,7 @@ async function testFiles() {
 
 // What is dropped, by its name, what the panel says of it, and whether that is bad.
 const DROPS = [
-  ['game.s', '; a game\n        lda #0\n', /^This is neither a dump, /, true],
+  ['game.s', '; a game\n        lda #0\n', /^This is neither a game, a dump, /, true],
   ['a.png', Buffer.from('89504E470D0A1A0A0000000D49484452', 'hex'), /^This is neither/, true],
   ['shapes.sketch', readFileSync(`${top}examples/board/shapes.sketch`), /^The ROM was loaded, /,
     false],
@@ -2007,7 +2007,7 @@ async function testByteOfGame() {
   expect('it is told', new RegExp('^At [0-9]+[.][0-9]{4} s a byte came early, by the driver, '
     + '6[89A][0-9A-F]{2}: sta .*[.] It wrote [0-9A-F]{2} over [0-9A-F]{2} into byte [0-9A-F]{3}, '
     + 'the (low|high) byte of word [0-9A-F]{3}[.] [0-9]+[.][0-9]{2} ms later the generator read '
-    + 'it: there the tear begins[.] [1-9][0-9]* of [0-9]+ strokes are red and dashed: '),
+    + 'it: there the tear begins[.] [1-9][0-9]* of [0-9]+ strokes, red and dashed, '),
   await tab.text('past-text'));
   const { found, red } = await tab.value(LIT);
   expect('a part of the picture is red', true, red.length > 20 && found.length > red.length + 20);

@@ -690,7 +690,7 @@ function testTornStrokes() {
       .filter(Boolean).length;
   });
   expect('the first frame\'s stroke is whole', 0, changes[0]);
-  expect('the other one\'s has dashes', true, changes[1] > 60 && changes[1] < 120);
+  expect('the other one\'s has dashes', true, changes[1] > 90 && changes[1] < 130);
 }
 
 // The areas of both rows, by chance, in so many slots.

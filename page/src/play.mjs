@@ -53,7 +53,7 @@ export function outcomeOf({ torn, left, pictures }) {
 const OUTCOMES = {
   tears: 'it tears',
   dark: 'it goes dark',
-  on: 'it goes on as before',
+  on: 'it goes on',
 };
 
 /* What an instruction does that writes into an area, by the sign of its slot. */
@@ -187,8 +187,9 @@ export class Play extends Player {
     if (arcade.seconds < ANSWER_AFTER) return 'What will come of it?';
     const outcome = outcomeOf(arcade.counts), said = guess === null ? ''
       : `You said: ${OUTCOMES[guess]}. `;
-    return `${said}${OUTCOMES[outcome][0].toUpperCase()}${OUTCOMES[outcome].slice(1)}: `
-      + `${this.whyText(outcome)}`;
+    const pace = arcade.slow > 1 ? ', with fewer pictures' : ' as before';
+    return `${said}${OUTCOMES[outcome][0].toUpperCase()}${OUTCOMES[outcome].slice(1)}`
+      + `${outcome === 'on' ? pace : ''}: ${this.whyText(outcome)}`;
   }
 
   /* Why it is so, by what was counted. */
