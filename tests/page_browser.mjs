@@ -747,7 +747,7 @@ async function testFiles() {
   const judged = { 'logs/tears': VERDICTS.early, 'logs/waits': VERDICTS.whole,
     'moments/torn': VERDICTS.torn, 'moments/comes_back': VERDICTS.torn,
     'moments/late': VERDICTS.early, 'moments/whole': VERDICTS.whole,
-    'moments/contradicts': /^Whole\/bad .* 1 fetch read what was not written: somebody writes/ };
+    'moments/contradicts': /^Whole\/bad: .* 1 fetch read what was not written: somebody writes/ };
   for (const [name, wanted] of Object.entries(judged)) {
     await tab.drop('screen', `${top}examples/${name}.log`);
     await comesWith('file-title', `The log ${name.replace(/.*\//, '')}.log`);
@@ -1155,7 +1155,7 @@ async function testTour() {
   expect('so say both verdicts', VERDICTS.cut, await verdicts());
   expect('the run has ended', 'Run', await tab.text('run'));
   expect('what the colours and the ring mean is said',
-    /red, dashed .* ring marks where the tear begins\. With the wire/, await tab.text('tour-text'));
+    /Red, dashed .* ring marks where the tear begins\. With the wire/, await tab.text('tour-text'));
   expect('the tear is told', /^Event ([0-9]+) wrote a byte while .*Event [0-9]+ read it: there /,
     await tab.text('tear-text'));
   expect('and its byte', / It wrote .. over .. into byte /, await tab.text('tear-text'));
