@@ -382,7 +382,7 @@ async function testStepping() {
   await openPage();
   const pictures = async () => Number(/([0-9]+) pictures?/.exec(await tab.text('counts'))[1]);
   const before = await pictures();
-  expect('what Run does is said', 'Run: 20000 events, in about 21 seconds.',
+  expect('what Run does is said', 'Run: 20,000 events, in about 21 seconds.',
     await tab.text('run-text'));
   await tab.click('one-picture');
   expect('one picture more', before + 1, await pictures());
@@ -1414,7 +1414,7 @@ async function testKeys() {
   expect('Home: before the first event', /^Before the first/, await tab.text('moment-text'));
   await tab.key('ArrowRight');
   await tab.key('ArrowRight');
-  expect('two events on', 'Event 1 of 2600: the driver is told that the generator is halted. '
+  expect('two events on', 'Event 1 of 2,600: the driver is told that the generator is halted. '
     + 'tick: read halted', await tab.text('moment-text'));
   await tab.key('End');
   expect('End: the newest event', /^Event 2,599 of 2,600/, await tab.text('moment-text'));
@@ -1509,7 +1509,7 @@ async function testOnAndOn() {
   expect('the wire is still cut', 'Mend the HALT wire', await tab.text('wire'));
   await tab.click('wire');
   await tab.click('endless');
-  expect('without it a run has an end', 'Run: 65536 events, in about 2 seconds.',
+  expect('without it a run has an end', 'Run: 65,536 events, in about 2 seconds.',
     await tab.text('run-text'));
   await tab.click('compare');
   expect('play does the same', /^the same up to the cut wire/, await tab.text('compared'));
@@ -1564,7 +1564,7 @@ async function testLive() {
 
 // A number in hexadecimal: with a letter and a digit, or three or four digits of which the first is
 // zero.
-const HEXADECIMAL = /\b(?=\d*[A-F])(?=[A-F]*\d)[\dA-F]{2,4}\b|\b0[\dA-F]{2,3}\b/;
+const HEXADECIMAL = /\b(?=\d*[A-F])(?=[A-F]*\d)[\dA-F]{2,4}\b|(?<!,)\b0[\dA-F]{2,3}\b/;
 
 // With plain words nothing that is seen is hexadecimal, whatever is opened; without them much is.
 async function testPlain() {
