@@ -382,7 +382,7 @@ async function testStepping() {
   await openPage();
   const pictures = async () => Number(/([0-9]+) pictures?/.exec(await tab.text('counts'))[1]);
   const before = await pictures();
-  expect('what Run does is said', 'Run: 20000 events, in about 21 seconds.',
+  expect('what Run does is said', 'Run: 20,000 events, in about 21 seconds.',
     await tab.text('run-text'));
   await tab.click('one-picture');
   expect('one picture more', before + 1, await pictures());
@@ -747,7 +747,7 @@ async function testFiles() {
   const judged = { 'logs/tears': VERDICTS.early, 'logs/waits': VERDICTS.whole,
     'moments/torn': VERDICTS.torn, 'moments/comes_back': VERDICTS.torn,
     'moments/late': VERDICTS.early, 'moments/whole': VERDICTS.whole,
-    'moments/contradicts': /^Whole\/bad .* 1 fetch read what was not written: somebody writes/ };
+    'moments/contradicts': /^Whole\/bad: .* 1 fetch read what was not written: somebody writes/ };
   for (const [name, wanted] of Object.entries(judged)) {
     await tab.drop('screen', `${top}examples/${name}.log`);
     await comesWith('file-title', `The log ${name.replace(/.*\//, '')}.log`);
@@ -775,7 +775,7 @@ async function testFiles() {
 
 // What is dropped, by its name, what the panel says of it, and whether that is bad.
 const DROPS = [
-  ['game.s', '; a game\n        lda #0\n', /^This is neither a dump, /, true],
+  ['game.s', '; a game\n        lda #0\n', /^This is neither a game, a dump, /, true],
   ['a.png', Buffer.from('89504E470D0A1A0A0000000D49484452', 'hex'), /^This is neither/, true],
   ['shapes.sketch', readFileSync(`${top}examples/board/shapes.sketch`), /^The ROM was loaded, /,
     false],
@@ -1155,7 +1155,7 @@ async function testTour() {
   expect('so say both verdicts', VERDICTS.cut, await verdicts());
   expect('the run has ended', 'Run', await tab.text('run'));
   expect('what the colours and the ring mean is said',
-    /red, dashed .* ring marks where the tear begins\. With the wire/, await tab.text('tour-text'));
+    /Red, dashed .* ring marks where the tear begins\. With the wire/, await tab.text('tour-text'));
   expect('the tear is told', /^Event ([0-9]+) wrote a byte while .*Event [0-9]+ read it: there /,
     await tab.text('tear-text'));
   expect('and its byte', / It wrote .. over .. into byte /, await tab.text('tear-text'));
@@ -1414,7 +1414,7 @@ async function testKeys() {
   expect('Home: before the first event', /^Before the first/, await tab.text('moment-text'));
   await tab.key('ArrowRight');
   await tab.key('ArrowRight');
-  expect('two events on', 'Event 1 of 2600: the driver is told that the generator is halted. '
+  expect('two events on', 'Event 1 of 2,600: the driver is told that the generator is halted. '
     + 'tick: read halted', await tab.text('moment-text'));
   await tab.key('End');
   expect('End: the newest event', /^Event 2,599 of 2,600/, await tab.text('moment-text'));
@@ -1509,7 +1509,7 @@ async function testOnAndOn() {
   expect('the wire is still cut', 'Mend the HALT wire', await tab.text('wire'));
   await tab.click('wire');
   await tab.click('endless');
-  expect('without it a run has an end', 'Run: 65536 events, in about 2 seconds.',
+  expect('without it a run has an end', 'Run: 65,536 events, in about 2 seconds.',
     await tab.text('run-text'));
   await tab.click('compare');
   expect('play does the same', /^the same up to the cut wire/, await tab.text('compared'));
@@ -1564,7 +1564,7 @@ async function testLive() {
 
 // A number in hexadecimal: with a letter and a digit, or three or four digits of which the first is
 // zero.
-const HEXADECIMAL = /\b(?=\d*[A-F])(?=[A-F]*\d)[\dA-F]{2,4}\b|\b0[\dA-F]{2,3}\b/;
+const HEXADECIMAL = /\b(?=\d*[A-F])(?=[A-F]*\d)[\dA-F]{2,4}\b|(?<!,)\b0[\dA-F]{2,3}\b/;
 
 // With plain words nothing that is seen is hexadecimal, whatever is opened; without them much is.
 async function testPlain() {
@@ -1770,6 +1770,11 @@ async function testHands() {
   expect('fire is down', true, await asks('fire'));
   await tab.mouse('mouseReleased', x, y, { button: 'left', clickCount: 1 });
   expect('and up again', false, await asks('fire'));
+  const touch = (type, touchPoints) => tab.send('Input.dispatchTouchEvent', { type, touchPoints });
+  await touch('touchStart', [{ x, y }]);
+  await expectSoon('so it is by a finger', true, () => asks('fire'));
+  await touch('touchEnd', []);
+  await expectSoon('until it is lifted', false, () => asks('fire'));
   await openGame(5);
   await tab.until('/, [1-9]\\.[0-9] s/.test(document.getElementById("run-counts").textContent)');
   const before = await picturesSeen();
@@ -1933,6 +1938,22 @@ const PIXELS_OF_ROWS = `(() => {
   return found;
 })()`;
 
+// Into how many parts a byte that shows is divided in them, by lines.
+const BANDS_OF_TORN = `(() => {
+  const canvas = document.getElementById('past'), { width, height } = canvas;
+  const torn = getComputedStyle(document.documentElement).getPropertyValue('--torn').trim();
+  const { data } = canvas.getContext('2d').getImageData(0, height / 2, width, height / 2);
+  const isTorn = (x, y) => '#' + [0, 1, 2].map((k) => (
+    data[4 * (y * width + x) + k].toString(16).padStart(2, '0'))).join('') === torn;
+  let most = 0;
+  for (let x = 0; x < width; x++) {
+    let bands = 0;
+    for (let y = 1; y < height / 2; y++) if (isTorn(x, y) && !isTorn(x, y - 1)) bands++;
+    most = Math.max(most, bands);
+  }
+  return most;
+})()`;
+
 const isHidden = (id) => tab.value(`document.getElementById('${id}').hidden`);
 
 // Below a game are its last seconds: both halves in both rows. A key leads back, and the game rests
@@ -1986,11 +2007,12 @@ async function testByteOfGame() {
   expect('it is told', new RegExp('^At [0-9]+[.][0-9]{4} s a byte came early, by the driver, '
     + '6[89A][0-9A-F]{2}: sta .*[.] It wrote [0-9A-F]{2} over [0-9A-F]{2} into byte [0-9A-F]{3}, '
     + 'the (low|high) byte of word [0-9A-F]{3}[.] [0-9]+[.][0-9]{2} ms later the generator read '
-    + 'it: there the tear begins[.] [1-9][0-9]* of [0-9]+ strokes are red and dashed: '),
+    + 'it: there the tear begins[.] [1-9][0-9]* of [0-9]+ strokes, red and dashed, '),
   await tab.text('past-text'));
   const { found, red } = await tab.value(LIT);
   expect('a part of the picture is red', true, red.length > 20 && found.length > red.length + 20);
   expect('the rows show it', true, (await tab.value(PIXELS_OF_ROWS))[1].torn > 0);
+  expect('by lines, too, for who sees no colours', 3, await tab.value(BANDS_OF_TORN));
   writeFileSync(`${work}/page_game_byte.png`, await tab.screenshot());
   await tab.click('pause');
   await expectSoon('it goes on, all red', true, async () => {

@@ -1,5 +1,6 @@
-// The page in a Firefox without a screen, asked by its own protocol: that it opens, that its tour
-// comes to a tear, that its log is that of `play`, and that a lesson opens. Called by tests/page:
+// The page in a Firefox without a screen, asked by its own protocol: that it opens, that a game is
+// played by keys and touch, that its tour comes to a tear, that its log is that of `play`, and that
+// a lesson opens. Called by tests/page:
 //
 //     node tests/page_firefox.mjs FIREFOX FOLDER
 //
@@ -10,7 +11,8 @@ import { connect, createServer } from 'node:net';
 import { DROP_LONG_LOG, MOVE_OVER_IT, movesText } from './page_long.mjs';
 
 const [firefox, work] = process.argv.slice(2);
-const address = `file://${new URL('../page/dvg.html', import.meta.url).pathname}#opening`;
+const front = `file://${new URL('../page/dvg.html', import.meta.url).pathname}`;
+const address = `${front}#opening`;
 // How long something is waited for, in milliseconds: long, as a machine may be busy.
 const WAIT = 240000, COLON = 58;
 let passed = 0, failed = 0;
@@ -110,6 +112,51 @@ class Firefox {
   }
 }
 
+// What the tube shows of a line of the test ROM's text, which begins that far up.
+const lineOfTube = (y) => `(() => {
+  const tube = document.getElementById('tube'), scale = tube.width / 1044;
+  const context = tube.getContext('2d');
+  const [left, top, wide, high] = [50, 1044 - ${y} - 36, 210, 26].map((one) => (
+    Math.round(one * scale)));
+  return context.getImageData(left, top, wide, high).data.join();
+})()`;
+
+// The test ROM shows that the left arrow key is down, and that a finger is on the button of fire;
+// with its wire cut it goes dark.
+async function testGame(browser) {
+  await browser.send('Navigate', { url: `${front}#game=The+test+ROM` });
+  const left = lineOfTube(822), fire = lineOfTube(738);
+  expect('its pictures are whole', true, await browser.until(
+    '/^Whole: each of [0-9]{2,} /.test(document.getElementById("run-moments").textContent)'));
+  expect('it is accepted', /^Accepted: /, await browser.text('every'));
+  const lines = { [left]: await browser.value(left), [fire]: await browser.value(fire) };
+  const comesTo = (line, isOther) => browser.until(
+    `(${line} === ${JSON.stringify(lines[line])}) === ${!isOther}`);
+  expect('both lines stand there', 2, new Set(Object.values(lines)).size);
+  const act = (actions) => browser.send('PerformActions', { actions });
+  const key = (type) => act([{ type: 'key', id: 'keys', actions: [{ type, value: '\uE012' }] }]);
+  await browser.value('document.getElementById("tube").focus()');
+  await key('keyDown');
+  expect('a key comes to the game', true, await comesTo(left, true));
+  expect('and no other one', true, await comesTo(fire, false));
+  await key('keyUp');
+  expect('and is let go', true, await comesTo(left, false));
+  const { x, y } = await browser.value(`(() => {
+    const { x, y, width, height } = document.querySelector('[data-input=fire]')
+      .getBoundingClientRect();
+    return { x: Math.round(x + width / 2), y: Math.round(y + height / 2) };
+  })()`);
+  const finger = (...actions) => act([{ type: 'pointer', id: 'finger',
+    parameters: { pointerType: 'touch' }, actions }]);
+  await finger({ type: 'pointerMove', x, y }, { type: 'pointerDown', button: 0 });
+  expect('so does a finger', true, await comesTo(fire, true));
+  await finger({ type: 'pointerUp', button: 0 });
+  expect('until it is lifted', true, await comesTo(fire, false));
+  await browser.value('document.getElementById("game-wire").click()');
+  expect('with its wire cut it goes dark', true, await browser.until(
+    '/^It goes dark: /.test(document.getElementById("what-text").textContent)'));
+}
+
 // The link of a lesson leads the keys to the rows, and opens the lesson anew while it is open.
 async function testLesson(browser) {
   for (const what of ['opens', 'opens anew']) {
@@ -134,6 +181,8 @@ async function testPage(browser) {
     expect('the page is ready', true, await browser.until('document.body.dataset.ready === "yes"'));
     opened.push(Number(await browser.value('document.body.dataset.opened')));
   }
+  await testGame(browser);
+  await browser.send('Navigate', { url: address });
   opened.sort((a, b) => a - b);
   const [least, , median, , most] = opened;
   console.log(`firefox: the page opens in ${least} to ${most} ms, ${median} at the median`);

@@ -24,6 +24,7 @@ import { Play } from '../page/src/play.mjs';
 import { KeptArcade, MOST_SLOTS, SLOT_CYCLES } from '../page/src/past.mjs';
 import { OPCODES, Processor } from '../page/src/processor.mjs';
 import { Program, labelsOf } from '../page/src/programs.mjs';
+import { Screen } from '../page/src/screen.mjs';
 import { ROW, SIGN, areaOf } from '../page/src/signs.mjs';
 import { Latches, SOUND, Speaker } from '../page/src/sounds.mjs';
 import { Strip } from '../page/src/strip.mjs';
@@ -31,7 +32,7 @@ import { tearOfGame } from '../page/src/tears.mjs';
 import { linesOfListing } from '../page/src/twin.mjs';
 import { packedGames } from '../page/games.mjs';
 import { brightOf, isDrawn } from './page_pixels.mjs';
-import { Audio, partsOf, runPage, scriptOf } from './page_stage.mjs';
+import { Audio, Image, partsOf, runPage, scriptOf } from './page_stage.mjs';
 
 const [program, work] = process.argv.slice(2, 4), events = Number(process.argv[5]),
   named = process.argv.slice(6);
@@ -275,9 +276,9 @@ async function testBreakGame() {
   return console.log(`a program with BRK beside the emulator: ${count} bytes that it keeps`);
 }
 
-// What that program keeps in the arcade emulator.
-function keptInEmulator(bytes, shapes, seconds) {
-  const script = `${work}/kept.lua`, folder = `${work}/breaking`;
+// What a program keeps in the arcade emulator.
+function keptInEmulator(bytes, shapes, seconds, machine = 'asteroid') {
+  const script = `${work}/kept.lua`, folder = `${work}/kept-${machine}`;
   writeFileSync(script, `if dvg_loaded then return end
 dvg_loaded = true
 local space = manager.machine.devices[":maincpu"].spaces["program"]
@@ -287,8 +288,121 @@ dvg_tap = space:install_write_tap(${PUSHED}, ${PUSHED + KEPT - 1}, "kept", funct
   file:flush()
 end)
 `);
-  runInEmulator(folder, bytes, shapes, String(seconds), script);
+  runInEmulator(folder, bytes, shapes, String(seconds), script, machine);
   return [...readFileSync(`${folder}/out/kept`)];
+}
+
+// --- Asteroids Deluxe ---
+
+// Makes a copy of an example for Asteroids Deluxe, with what `make proof` says of it.
+function makeForDeluxe(place, folder, name, edit) {
+  for (const part of ['board', 'crates/dvg_calls_6502', `examples/${folder}`]) {
+    cpSync(`${top}${part}`, `${place}/${part}`, { recursive: true });
+  }
+  const file = `${place}/examples/${folder}/${name}.s`;
+  writeFileSync(file, edit(readFileSync(file, 'utf8')));
+  for (const what of ['clean', 'proof', 'eproms']) {
+    const { stdout } = spawnSync('make', ['-s', '-C', `${place}/examples/${folder}`,
+      'MACHINE=astdelux', what], { env: { ...process.env, DVG: program } });
+    if (what === 'proof') writeFileSync(`${place}/said`, stdout);
+  }
+}
+
+// That copy, made once: what `make proof` says of it, its sockets as `make eproms` writes them, and
+// its program, its vector ROM and its labels.
+function madeForDeluxe(number, folder, name, edit = (text) => text) {
+  const place = `${work}/deluxe${number}`;
+  if (!existsSync(place)) makeForDeluxe(place, folder, name, edit);
+  const of = (path) => readFileSync(`${place}/examples/${folder}/build/${path}`);
+  const said = readFileSync(`${place}/said`, 'utf8').trim().split('\n');
+  const sockets = ['d1_6000', 'ef1_6800', 'h1_7000', 'j1_7800', 'r2_4800', 'np2_5000']
+    .map((one) => ({ name: `${one}.bin`, bytes: new Uint8Array(of(`eproms/${one}.bin`)) }));
+  const files = [`${name}.program`, 'rom', `${name}.labels`]
+    .map((one) => ({ name: one, bytes: new Uint8Array(of(one)) }));
+  return { said, sockets, files };
+}
+
+const IN_LOW = ['nmi:    inc beats', '.segment "LOW"\nnmi:    inc beats\n        sta $3C07'];
+
+// The checker says of programs for Asteroids Deluxe what `make proof` says; dropped, they are the
+// same as their sockets, and run.
+function testDeluxe() {
+  if (!hasTools) return console.log('skipped: Asteroids Deluxe: ca65 is not here');
+  const [from, to] = IN_LOW, wrong = to.replace('3C07', '3C08');
+  for (const [k, [folder, name, edit, status]] of [['test_rom', 'test', undefined, 0],
+    ['first', 'first', undefined, 0], ['first', 'first', (text) => text.replace(from, to), 0],
+    ['first', 'first', (text) => text.replace(from, wrong), 1]].entries()) {
+    const { said, sockets, files } = madeForDeluxe(k, folder, name, edit);
+    const game = gameOf(files), what = `${folder} for Deluxe`;
+    const { verdict, lines } = judgeProgram(new Program(game.program, game.labels), game.shapes,
+      driverOfPage());
+    expect(`${what}: the verdict`, status, verdict);
+    expect(`${what}: what is said`, said.map((line) => line.replace(/^refused: |: a script says.*/,
+      '')), lines);
+    const { program: bytes, shapes, missing } = gameOf(sockets);
+    expect(`${what}: its sockets`, [true, true, ''], [missing, ...[[bytes, game.program],
+      [shapes, game.shapes]].map((pair) => Buffer.compare(...pair) === 0)].reverse());
+    const { length } = gameOf(files.slice(0, 1)).shapes;
+    expect(`${what}: without shapes`, [false, 4096], [gameOf(files.slice(0, 1)).hasShapes, length]);
+    const arcade = new Arcade(engine, game.program, game.shapes);
+    arcade.run(2 * HERTZ);
+    const { pictures, torn, early, left, resets } = arcade.counts;
+    expect(`${what}: it runs`, ['', true, 0, 0, 0, 0],
+      [arcade.fault, pictures > 20, torn, early, left, resets]);
+    expect(`${what}: strokes`, true, arcade.picture.strokes.length > 3);
+    arcade.free();
+  }
+  return null;
+}
+
+// A program that keeps what it finds at these places, of which the first is in a bank that changed
+// its place.
+const FOUND_AT = [0x0200, 0x2800, 0x2801, 0x2802, 0x2803, 0x2C08, 0x2407, 0x6000, 0x4800, 0x57FF];
+function deluxeProgram() {
+  const store = (byte, at) => [0xA9, byte, 0x8D, at & 0xFF, at >> 8];
+  const code = [0xA2, 0xFF, 0x9A, ...store(3, 0x2C0F), ...store(0, 0x3C04), ...store(0xAA, 0x200),
+    ...store(0x55, 0x300), ...store(4, 0x3200), ...store(0x80, 0x3C04),
+    ...FOUND_AT.flatMap((at) => [0xAD, at & 0xFF, at >> 8, 0x8D, (PUSHED + 1) & 0xFF, PUSHED >> 8]),
+    0x8D, 0x00, 0x34];
+  const end = 0x6800 + code.length - 3, image = new Uint8Array(8192).fill(0x40);
+  image.set([...code, 0x4C, end & 0xFF, end >> 8], 0x800);
+  image.set([0xF0, 0x7F, 0x00, 0x68], 8192 - 6);
+  return image;
+}
+
+// What that program keeps in the arcade emulator, which is asked once.
+function foundOnDeluxe(image, shapes) {
+  const file = `${work}/found_on_deluxe`;
+  if (!existsSync(file)) {
+    writeFileSync(file, Uint8Array.from(keptInEmulator(image, shapes, 2, 'astdelux')));
+  }
+  return [...readFileSync(file)];
+}
+
+// Its banks, its switches and its ROM are those of the arcade emulator's board.
+function testDeluxeBoard() {
+  const image = deluxeProgram(), shapes = Uint8Array.from({ length: 4096 }, (_, k) => k % 251);
+  const board = new Keeping(engine, image, shapes);
+  board.run(HERTZ / 10);
+  expect('the banks, and the ROM', [0x55, 0x40, 0x00, shapes[4095]],
+    [board.kept[1], ...board.kept.slice(-3)]);
+  board.free();
+  if (!hasEmulator) return console.log('skipped: Deluxe beside the emulator: it isn\'t here');
+  expect('what is found in the emulator', foundOnDeluxe(image, shapes), board.kept);
+  const random = new Set(), latches = new Latches(true), since = new Set();
+  const sounds = soundsOfBoard('deluxe');
+  for (const [at, byte] of soundWrites(5000, 5)) {
+    latches.write(at, byte, 0);
+    if (sounds.has(at)) since[(byte & sounds.get(at).bits) === 0 ? 'delete' : 'add'](at);
+    expect(`Deluxe: after ${hex(at, 4)} ${hex(byte, 2)}`, [...since].sort(),
+      [...latches.since.keys()].filter((one) => one >= 0x3000).sort());
+  }
+  for (let k = 0; k < 99; k++) {
+    board.processor.cycles += 7;
+    random.add(board.read(0x2C0A));
+  }
+  expect('its random numbers differ', true, random.size > 50);
+  return console.log(`Asteroids Deluxe beside the emulator: ${board.kept.length} bytes`);
 }
 
 // --- The checker ---
@@ -559,6 +673,26 @@ function testPast() {
   console.log(`the last seconds of boards beside their logs: ${slots} slots`);
 }
 
+// In a torn picture the strokes of another frame are dashed, for who sees no colours, and those of
+// the first one aren't.
+function testTornStrokes() {
+  globalThis.ImageData = Image;
+  const { tube } = partsOf('<canvas id="tube">').parts, width = 1044;
+  const screen = new Screen(Object.assign(tube, { width, height: width }));
+  const lineAt = (y) => [100 * 512, y * 512, 900 * 512, y * 512, 15];
+  const wanted = [lineAt(300)], wrong = [lineAt(600)];
+  screen.draw({ id: 1, strokes: [...wanted, ...wrong], torn: true }, null, false,
+    { wanted, next: [], wrong });
+  const { data } = tube.image;
+  const changes = [300, 600].map((y) => {
+    const row = width - 1 - (y + 10), isLit = (x) => data[4 * (row * width + x + 10)] > 120;
+    return Array.from({ length: 780 }, (_, k) => isLit(110 + k) !== isLit(111 + k))
+      .filter(Boolean).length;
+  });
+  expect('the first frame\'s stroke is whole', 0, changes[0]);
+  expect('the other one\'s has dashes', true, changes[1] > 90 && changes[1] < 130);
+}
+
 // The areas of both rows, by chance, in so many slots.
 function areasByChance(count) {
   const drawn = numbersFrom(6);
@@ -730,9 +864,9 @@ function testGamepads() {
 // --- Sounds ---
 
 // The sounds by their addresses, with their names and the bits that have them on: as
-// board/emulator/sounds.lua takes them from board/asteroids.inc for `make sound`.
-function soundsOfBoard() {
-  const text = readFileSync(`${top}board/asteroids.inc`, 'utf8');
+// board/emulator/sounds.lua takes them from board/asteroids.inc for `make sound`, or deluxe.inc.
+function soundsOfBoard(names = 'asteroids') {
+  const text = readFileSync(`${top}board/${names}.inc`, 'utf8');
   const bits = { THUMP: 0x10, EXPLOSION: 0x3C };
   return new Map([...text.matchAll(/^([A-Z_]+) *= *\$(3[0-9A-F]{3})/gm)]
     .filter(([, name]) => name in bits || name.startsWith('SOUND_'))
@@ -784,15 +918,15 @@ const hasEmulator = spawnSync('sh', ['-c', 'command -v mame || test -x /usr/game
   .status === 0;
 
 // Runs a program over a vector ROM in the arcade emulator, for some seconds, with a script.
-function runInEmulator(folder, image, shapes, seconds, script) {
+function runInEmulator(folder, image, shapes, seconds, script, machine = 'asteroid') {
   const board = `${top}board/emulator`;
   mkdirSync(`${folder}/roms`, { recursive: true });
   writeFileSync(`${folder}/program`, image);
   writeFileSync(`${folder}/rom`, shapes);
   spawnSync('python3', [`${board}/prom.py`, `${folder}/prom`]);
-  spawnSync(`${board}/roms`, ['program', 'rom', 'prom', 'roms/asteroid'], { cwd: folder });
+  spawnSync(`${board}/roms`, ['program', 'rom', 'prom', `roms/${machine}`], { cwd: folder });
   const { status } = spawnSync(`${board}/run`, [`${folder}/roms`, `${folder}/out`, seconds,
-    script], { env: { ...process.env, DVG_BUTTONS: '' } });
+    script], { env: { ...process.env, DVG_BUTTONS: '', DVG_MACHINE: machine } });
   if (status !== 0) throw new Error(`the emulator: ${readFileSync(`${folder}/out/said`, 'utf8')}`);
 }
 
@@ -885,7 +1019,7 @@ function pageOf(folder, title) {
   const { status: none, stderr: said } = spawnSync(`${top}page/game`,
     [files[1][0], files[1][0], title, out]);
   expect('another size is refused', [1, true],
-    [none, said.toString().includes('has 2048 bytes; the page plays games for Asteroids')]);
+    [none, said.toString().includes('bytes; a game for Asteroids has 6144 and 2048, and ')]);
   expect(`${folder}: its size is told`, true,
     stdout.toString().includes(`: ${Buffer.byteLength(html)} bytes: `));
   return html;
@@ -1040,10 +1174,10 @@ async function testGameFiles() {
       Buffer.from(game.program).toString('hex'));
     expect(`${what}: its shapes`, Buffer.from(shapes).toString('hex'),
       Buffer.from(game.shapes).toString('hex'));
-    expect(`${what}: nothing is missing`, '', game.missing.replace('NP3', ''));
+    expect(`${what}: nothing is missing`, ['', true], [game.missing, game.hasShapes]);
   }
   expect('labels', [[0x6C71, 'draw']], [...gameOf([whole, labels]).labels]);
-  expect('a socket alone', 'H2, J2, NP3', gameOf([sockets[0]]).missing);
+  expect('a socket alone', 'H2, J2', gameOf([sockets[0]]).missing);
   expect('a vector ROM alone', null, gameOf([rom]));
   for (const [what, file, wanted] of [['a program', bytes, true], ['EF2', sockets[0].bytes, true],
     ['J2', sockets[2].bytes, true], ['a page', page.bytes, true],
@@ -1108,7 +1242,8 @@ function zipsOf(files) {
 
 const TESTS = [
   testSteps, testBreakSteps, testDecimal, testBreak, testBreakGame, testBuilt, testChecker,
-  testJudges, testPast, testStrip,
+  testDeluxe, testDeluxeBoard,
+  testJudges, testPast, testTornStrokes, testStrip,
   testMendedBoard, testRate, testBoard, testNmi,
   testGamepads, testSoundLatches, testSounding, testSpeaker, testSoundButton, testGamePage,
   testMakePage, testGameLinks, testGameFiles, testOutlines,

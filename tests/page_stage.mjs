@@ -47,6 +47,13 @@ class Part {
 
 function none() {}
 
+// An image of a canvas.
+export class Image {
+  constructor(width, height) {
+    Object.assign(this, { width, height, data: new Uint8ClampedArray(4 * width * height) });
+  }
+}
+
 // The parts of a page that have an id, by that, and those that press a button of the game.
 export function partsOf(html) {
   const named = (form) => [...html.matchAll(form)].map(([, name]) => [name, new Part(name)]);
@@ -71,11 +78,7 @@ export async function runPage(html, more = {}) {
       body, getElementById: (id) => parts[id], querySelectorAll: () => Object.values(inputs),
     }),
     performance: { now: () => now }, requestAnimationFrame: (frame) => frames.push(frame),
-    ImageData: class {
-      constructor(width, height) {
-        Object.assign(this, { width, height, data: new Uint8ClampedArray(4 * width * height) });
-      }
-    },
+    ImageData: Image,
     ResizeObserver: class { observe() {} },
     addEventListener: (...words) => body.addEventListener(...words),
     matchMedia: () => ({ matches: false }), devicePixelRatio: 1, navigator: {}, WebAssembly, atob,

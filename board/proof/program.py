@@ -1,6 +1,7 @@
 """A program as its bytes and its labels, and what stands where on the board."""
 
-from table import CODE_END, DRIVER_END, PROGRAM_END, RANGES, ROUTINES, STANDS, START, WRITABLE
+from table import (CODE_END, DRIVER_END, PROGRAM_END, RANGES, ROUTINES, SAID, STANDS, START,
+                   WRITABLE)
 
 # The names of the routines by their addresses.
 NAMES = {at: name for at, name, _, _ in ROUTINES}
@@ -14,17 +15,17 @@ def are_in(*names):
 class Board:
     """What the boards differ in. The definition that is proved has that of Asteroids alone."""
     outputs = are_in('output')
-    low = range(0)              # where more of the program's ROM stands
+    low = set()                 # where more of the program's ROM stands
     names = 'asteroids.inc'
     remark = ''
 
 
 def take_deluxe():
     """From now on programs are for Asteroids Deluxe."""
-    Board.outputs |= {0x3C06, 0x3C07, *range(0x2C00, 0x2C10), *range(0x3201, 0x3240)}
-    Board.low = range(0x6000, START)
+    Board.outputs |= are_in('deluxe')
+    Board.low = are_in('low')
     Board.names = 'deluxe.inc'
-    Board.remark = '. The outputs of deluxe.inc and ROM below 6800 are allowed, without a proof'
+    Board.remark = SAID['deluxe']
 
 
 OWN = are_in('own')

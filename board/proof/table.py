@@ -93,6 +93,9 @@ RANGES = {
                [0x3C00, 0x3C06], [0x3E00, 0x3E01]],
     'strobe': [[0x3000, 0x3200]],           # and its mirror
     'list': [[0x4800, 0x8000]],             # tables, and lists of words
+    # What Asteroids Deluxe has besides: outputs that deluxe.inc names, and the program's ROM.
+    'deluxe': [[0x2C00, 0x2C10], [0x3201, 0x3240], [0x3C06, 0x3C08]],
+    'low': [[0x6000, 0x6800]],
 }
 # Where code of each level may write.
 WRITABLE = {'main': ['ram', 'output', 'operand', 'own'], 'sub': ['ram', 'output', 'operand'],
@@ -251,6 +254,7 @@ SAID = {
     'dvg_pair': 'put by dvg_pair at {where}',
     'summary': '{count} instructions behind TXS, {calls} subroutines; at most {stack} bytes of the '
                'stack, and {fuel} instructions of the NMI',
+    'deluxe': '. The outputs of deluxe.inc and ROM below 6800 are allowed, without a proof',
     'no_calls': 'it calls neither dvg_offer, dvg_put nor dvg_pair',
     'no_others': '{tables} tables checked, {words} words checked; there are no others',
     'others': '{tables} tables checked, {words} words checked; there are others',

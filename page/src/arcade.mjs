@@ -1,11 +1,11 @@
-/* The board of Asteroids with a game on it: the 6502 runs the program's bytes, and the generator of
- * dvg.wasm reads the same vector RAM, each at its own time. Both judges look on. Tested, not
- * proved. */
+/* The board of Asteroids or of Asteroids Deluxe with a game on it: the 6502 runs the program's
+ * bytes, and the generator of dvg.wasm reads the same vector RAM, each at its own time. Both judges
+ * look on. Tested, not proved. */
 import { WordTimes } from './chance.mjs';
 import { KIND } from './engine.mjs';
 import { Processor } from './processor.mjs';
 import { AREA } from './signs.mjs';
-import { Latches } from './sounds.mjs';
+import { Latches, POKEY } from './sounds.mjs';
 
 /* The processor's cycles in a second, from one NMI to the next, and until the watchdog resets. */
 export const HERTZ = 1512000;
@@ -21,16 +21,23 @@ export const AT = {
   SWITCHES: 0x2800, INPUTS_END: 0x3000, STROBE: 0x3000, OUTPUTS: 0x3200, WATCHDOG: 0x3400,
   WATCHDOG_END: 0x3600, VECTORS: 0x4000, VECTORS_END: 0x4800, SHAPES_END: 0x5800, END: 0x8000,
 };
-const OUT_BANKS = 4, BANK_BYTES = 0x100;
+const BANK_BYTES = 0x100;
 
 /* The places of the buttons and switches, as board/asteroids.inc names them. */
 export const INPUTS = {
   hyperspace: 0x2003, fire: 0x2004, step: 0x2005, slam: 0x2006, test: AT.TEST, coin: 0x2400,
   start1: 0x2403, start2: 0x2404, thrust: 0x2405, right: 0x2406, left: 0x2407,
 };
-/* The switches on the board: a coin for a game, four ships, English. */
-const SWITCHES = [0xFE, 0xFC, 0xFC, 0xFC];
+/* What the boards differ in, by how long the vector ROM is: the bit of an output by which the banks
+ * change places, and the switches on the board: a coin for a game, four ships, English. */
+const BOARDS = {
+  2048: { banks: { at: AT.OUTPUTS, bit: 0x04 }, switches: [0xFE, 0xFC, 0xFC, 0xFC] },
+  4096: { banks: { at: 0x3C04, bit: 0x80 }, switches: [0xFC, 0xFC, 0xFC, 0xFC] },
+};
 const CLOSED = 0xFF, OPEN = 0x7F;
+/* What the POKEY of Asteroids Deluxe reads: eight switches more, a coin for a game; random numbers.
+ * The memory behind it that keeps 64 bytes without power isn't here. */
+const POKEY_SWITCHES = 0xFD, POKEY_READS = { SWITCHES: POKEY + 8, RANDOM: POKEY + 10 };
 
 /* What is counted of a run, from a moment on. */
 function countsOf(cycles) {
@@ -53,7 +60,9 @@ export class Arcade {
     this.judge.openJudge();
     this.halves = engine.halves();
     this.inputs = new Set();
-    this.latches = new Latches();
+    this.board = BOARDS[shapes.length];
+    this.isDeluxe = shapes.length > 2048;
+    this.latches = new Latches(this.isDeluxe);
     Object.assign(this, { wireCut: false, slow: 1, ignored: false });
     Object.assign(this, { running: false, isMixed: false, swapped: 0, at: 0, fault: '' });
     Object.assign(this, { picture: null, number: 0, isOld: false });
@@ -95,7 +104,7 @@ export class Arcade {
     return at >= AT.INPUTS && at < AT.INPUTS_END ? this.readInput(at) : this.memory[at];
   }
 
-  /* Pages 2 and 3 change places while OUT_BANKS is set. */
+  /* Pages 2 and 3 change places while that output is set. */
   placeOf(at) { return at < AT.BANKS ? at : at ^ this.swapped; }
 
   readInput(at) {
@@ -104,18 +113,24 @@ export class Arcade {
       return this.running && !this.wireCut ? CLOSED : OPEN;
     }
     if (at === AT.CLOCK) return this.processor.cycles & CLOCK_HALF ? CLOSED : OPEN;
-    if (at >= AT.SWITCHES && at < AT.SWITCHES + SWITCHES.length) return SWITCHES[at - AT.SWITCHES];
+    if (at >= AT.SWITCHES && at < AT.SWITCHES + 4) return this.board.switches[at - AT.SWITCHES];
+    if (this.isDeluxe && at >= POKEY) return this.readPokey(at);
     return this.inputs.has(at) ? CLOSED : OPEN;
   }
 
+  readPokey(at) {
+    if (at === POKEY_READS.SWITCHES) return POKEY_SWITCHES;
+    return at === POKEY_READS.RANDOM ? Math.imul(this.processor.cycles, 0x9E3779B1) >>> 24 : OPEN;
+  }
+
   write(address, byte) {
-    const at = address % AT.END;
+    const at = address % AT.END, { banks } = this.board;
+    if (at === banks.at) this.swapped = byte & banks.bit ? BANK_BYTES : 0;
     if (at < AT.RAM_END) this.memory[this.placeOf(at)] = byte;
     else if (at >= AT.VECTORS && at < AT.VECTORS_END) this.writeVector(at, byte);
     else if (at >= AT.STROBE && at < AT.OUTPUTS) this.strobe();
-    else if (at === AT.OUTPUTS) this.swapped = byte & OUT_BANKS ? BANK_BYTES : 0;
     else if (at >= AT.WATCHDOG && at < AT.WATCHDOG_END) this.watchedAt = this.processor.cycles;
-    else if (at >= AT.WATCHDOG_END && at < AT.VECTORS) this.latches.write(at, byte, this.time);
+    else if (at >= POKEY && at < AT.VECTORS) this.latches.write(at, byte, this.time);
   }
 
   /* A byte comes into the vector RAM, after all that the generator has read by now. */

@@ -2,7 +2,7 @@
  * script, but for the names of tables and shapes, which aren't in the bytes. Tested, not proved. */
 import { Contents } from './contents.mjs';
 import { emptyOnes, jumpTo, ledFrom, makeNotes, waysOn } from './notes.mjs';
-import { ENTRIES, filled, isCode } from './programs.mjs';
+import { ENTRIES, filled, isCode, takeBoardOf } from './programs.mjs';
 import { lineOf, refusalOf, refusalsOf, startOf } from './rules.mjs';
 import { HINTS, NMI_VECTOR, SAID, START, WHY } from './tables.mjs';
 
@@ -80,12 +80,13 @@ function summaryOf(program, notes, start) {
     if (one.does === 'calls' && isCode(one.operand)) called.add(one.operand);
   }
   return filled(SAID.summary, { count: notes.size, calls: called.size, fuel: nmi.fuel,
-    stack: notes.get(start).room + nmi.room + 3 });
+    stack: notes.get(start).room + nmi.room + 3 }) + (takeBoardOf(program) ? SAID.deluxe : '');
 }
 
 /* The verdict of a program over a vector ROM, with `driver`, the bytes that are proved: a verdict,
  * and lines, the cause first. */
 export function judgeProgram(program, rom, driver) {
+  takeBoardOf(program);
   const { notes, start, lines } = examined(program, driver);
   if (lines.length > 0) return { verdict: VERDICT.REFUSED, lines };
   const contents = new Contents(program, notes, start, rom);

@@ -8,8 +8,8 @@ import { Recording, boardOfDump } from './recordings.mjs';
 import { readSketch } from './sketches.mjs';
 import { counted } from './words.mjs';
 
-const REFUSED = 'This is neither a dump, a log, a table of a bus, a ROM, a trace nor a sketch, so '
-  + 'it was not opened.';
+const REFUSED = 'This is neither a game, a dump, a log, a table of a bus, a ROM, a trace nor a '
+  + 'sketch, so it was not opened.';
 /* What is told of files that the page doesn't show. */
 const TOLD = {
   judged: 'This is what make judge saw of a run. The page doesn\'t show it, but the log of the '

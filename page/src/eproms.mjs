@@ -1,13 +1,20 @@
-/* What a game is dropped as: its program, its three sockets, its vector ROM, its labels, a zip of
- * these, or the page that `make page` wrote; and the games that are built in. */
+/* What a game is dropped as: its program, its sockets, its vector ROM, its labels, a zip of these,
+ * or the page that `make page` wrote; and the games that are built in. */
 import { bytesOfBase64 } from './hex.mjs';
 import { labelsOf } from './programs.mjs';
 import { NMI_VECTOR, PROGRAM_END, RESET_VECTOR, START } from './tables.mjs';
 
-const SOCKET_BYTES = 2048, PROGRAM_BYTES = PROGRAM_END - START, NO_BYTE = 0xFF;
-/* The sockets of the program, and that of the vector ROM, by their names. */
-const SOCKETS = { ef2: 0x6800, h2: 0x7000, j2: 0x7800, np3: 0x5000 };
-const SHAPES = SOCKETS.np3;
+const SOCKET_BYTES = 2048, NO_BYTE = 0xFF, SHAPES_END = 0x5800;
+/* Asteroids and Asteroids Deluxe: how long a program is, and a vector ROM, and where the sockets of
+ * both are, by their names. */
+const ASTEROIDS = {
+  program: 6144, shapes: 2048, sockets: { ef2: 0x6800, h2: 0x7000, j2: 0x7800, np3: 0x5000 },
+};
+const DELUXE = {
+  program: 8192, shapes: 4096,
+  sockets: { d1: 0x6000, ef1: 0x6800, h1: 0x7000, j1: 0x7800, r2: 0x4800, np2: 0x5000 },
+};
+const PROGRAM_BYTES = [ASTEROIDS.program, DELUXE.program];
 /* Where a program is first looked at: the driver's first bytes. */
 const DRIVER_BEGINS = [0xA9, 0x00, 0x85, 0x10, 0xA9, 0x03, 0x85, 0x12];
 /* The bytes of a word that `dvg lay --rom` fills a ROM with. */
@@ -35,54 +42,76 @@ function gameOfPage(bytes) {
 /* Whether a file is a program, or one of its sockets, by its bytes; or a zip, or a page. */
 export function isOfGame(bytes) {
   if (isZip(bytes) || gameOfPage(bytes) !== null) return true;
-  if (bytes.length === PROGRAM_BYTES) return hasVectors(bytes);
+  if (PROGRAM_BYTES.includes(bytes.length)) return hasVectors(bytes);
   return bytes.length === SOCKET_BYTES && (hasVectors(bytes) || beginsDriver(bytes));
 }
 
-/* Which socket a file of 2,048 bytes is for: by its name, or by its bytes. */
-function socketOf({ name, bytes }) {
-  const [, socket] = /(?:^|[^a-z0-9])(ef2|h2|j2|np3)(?:[^a-z0-9]|$)/.exec(name.toLowerCase()) ?? [];
-  if (socket !== undefined) return SOCKETS[socket];
-  if (beginsDriver(bytes)) return SOCKETS.ef2;
-  return hasVectors(bytes) ? SOCKETS.j2 : SHAPES;
+/* The socket of a board that a file names, or undefined. */
+function namedSocket({ name }, { sockets }) {
+  const names = new RegExp(`(?:^|[^a-z0-9])f?(${Object.keys(sockets).join('|')})(?:[^a-z0-9]|$)`);
+  return sockets[names.exec(name.toLowerCase())?.[1]];
+}
+
+/* Which board files are for. */
+function boardOf(files) {
+  const isFor = (file) => file.bytes.length === DELUXE.program
+    || (file.bytes.length === SOCKET_BYTES && namedSocket(file, DELUXE) !== undefined);
+  return files.some(isFor) ? DELUXE : ASTEROIDS;
+}
+
+/* Where a file of 2,048 bytes is: by its name, or by its bytes. */
+function placeOf(file, board) {
+  const socket = namedSocket(file, board);
+  if (socket !== undefined) return socket;
+  if (beginsDriver(file.bytes)) return START;
+  return hasVectors(file.bytes) ? PROGRAM_END - SOCKET_BYTES : SHAPES_END - SOCKET_BYTES;
+}
+
+/* A vector ROM of so many bytes that begins with these; each other word is a return. */
+function vectorRom(bytes, length) {
+  return Uint8Array.from({ length }, (_, k) => bytes[k] ?? FILLER[k % 2]);
 }
 
 /* The sockets of a program that are missing, as a text. */
-function missingText(found) {
-  const missing = Object.keys(SOCKETS).filter((name) => !found.has(SOCKETS[name]));
+function missingText(found, { sockets }) {
+  const missing = Object.keys(sockets).filter((name) => (
+    sockets[name] >= SHAPES_END && !found.has(sockets[name])));
   return missing.map((name) => name.toUpperCase()).join(', ');
 }
 
-/* The game that files are of, each with a name and bytes: its program, its vector ROM or null, its
- * labels, and what is missing, as a text. Null where there is no program among them. */
+/* The game that files are of, each with a name and bytes: its program, its vector ROM, its labels,
+ * and what is missing: sockets, as a text, and whether all of the vector ROM is. Null where there is
+ * no program among them. */
 export function gameOf(files) {
-  const program = new Uint8Array(PROGRAM_BYTES).fill(NO_BYTE), found = new Set();
-  let shapes = null, labels = new Map();
+  const onPage = files.map(({ bytes }) => gameOfPage(bytes)).find((game) => game !== null);
+  if (onPage !== undefined) return onPage;
+  const board = boardOf(files), found = new Set();
+  const program = new Uint8Array(board.program).fill(NO_BYTE);
+  const shapes = vectorRom([], board.shapes);
+  const put = (bytes, at) => {
+    if (at < SHAPES_END) shapes.set(bytes, at - (SHAPES_END - board.shapes));
+    else program.set(bytes, at - (PROGRAM_END - board.program));
+    for (let part = 0; part < bytes.length; part += SOCKET_BYTES) found.add(at + part);
+  };
+  let labels = new Map();
   for (const file of files) {
-    const { name, bytes } = file, onPage = gameOfPage(bytes);
-    if (onPage !== null) return onPage;
+    const { name, bytes } = file;
     if (/labels$/.test(name)) labels = labelsOf(new TextDecoder().decode(bytes));
-    else if (bytes.length === PROGRAM_BYTES) {
-      program.set(bytes);
-      for (const at of Object.values(SOCKETS)) if (at !== SHAPES) found.add(at);
-    } else if (bytes.length === SOCKET_BYTES) {
-      const at = socketOf(file);
-      found.add(at);
-      if (at === SHAPES) shapes = bytes;
-      else program.set(bytes, at - START);
-    }
+    else if (bytes.length === SOCKET_BYTES) put(bytes, placeOf(file, board));
+    else if (bytes.length === board.program) put(bytes, PROGRAM_END - board.program);
+    else if (bytes.length === board.shapes) put(bytes, SHAPES_END - board.shapes);
   }
-  const isGame = [...found].some((at) => at !== SHAPES);
-  return isGame ? { program, shapes, labels, missing: missingText(found) } : null;
+  if (![...found].some((at) => at >= SHAPES_END)) return null;
+  const hasShapes = [...found].some((at) => at < SHAPES_END);
+  return { program, shapes, labels, hasShapes, missing: missingText(found, board) };
 }
 
 /* The game that a link holds, of the fields that Play writes. */
 export function gameOfFields({ program: bytes, shapes: rom, labels: text = '' }) {
   const [program, shapes] = [bytes, rom].map(bytesOfBase64);
-  if (program.length !== PROGRAM_BYTES || shapes.length !== SOCKET_BYTES) {
-    throw new Error('a game of other sizes');
-  }
-  return { program, shapes, labels: labelsOf(text), missing: '' };
+  const isOf = (board) => program.length === board.program && shapes.length === board.shapes;
+  if (![ASTEROIDS, DELUXE].some(isOf)) throw new Error('a game of other sizes');
+  return { program, shapes, labels: labelsOf(text), hasShapes: true, missing: '' };
 }
 
 /* The files with the files of each zip among them in its place. */
@@ -136,10 +165,10 @@ async function inflated(packed) {
 /* A game that is built in, of its bytes behind the driver, its vectors, and the words of its vector
  * ROM that aren't filler; with the driver's bytes. */
 export function builtGame({ bytes, vectors, shapes }, driver) {
-  const program = new Uint8Array(PROGRAM_BYTES).fill(NO_BYTE);
+  const program = new Uint8Array(ASTEROIDS.program).fill(NO_BYTE);
   program.set(driver);
   program.set(bytes, driver.length);
-  program.set(vectors, PROGRAM_BYTES - vectors.length);
-  const rom = Uint8Array.from({ length: SOCKET_BYTES }, (_, k) => shapes[k] ?? FILLER[k % 2]);
-  return { program, shapes: rom, labels: new Map(), missing: '' };
+  program.set(vectors, program.length - vectors.length);
+  const rom = vectorRom(shapes, ASTEROIDS.shapes);
+  return { program, shapes: rom, labels: new Map(), hasShapes: true, missing: '' };
 }

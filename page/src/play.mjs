@@ -53,7 +53,7 @@ export function outcomeOf({ torn, left, pictures }) {
 const OUTCOMES = {
   tears: 'it tears',
   dark: 'it goes dark',
-  on: 'it goes on as before',
+  on: 'it goes on',
 };
 
 /* What an instruction does that writes into an area, by the sign of its slot. */
@@ -91,12 +91,10 @@ export class Play extends Player {
     const files = await unzipped(list), game = gameOf(files);
     if (game === null) return false;
     const name = list.map((file) => file.name).join(', ');
-    const rom = game.shapes ?? new Uint8Array(2048);
-    const shapes = game.shapes === null ? ' Its vector ROM isn\'t among them, so it calls nothing: '
-      + 'drop both at once.' : '';
-    const missing = game.missing.replace(/,? ?NP3$/, '');
-    const sockets = missing === '' ? '' : ` ${missing} of its sockets aren't among them.`;
-    this.begin(name, { ...game, shapes: rom }, `${name}.${sockets}${shapes}`);
+    const shapes = game.hasShapes ? '' : ' Its vector ROM isn\'t among them, so it calls nothing: '
+      + 'drop both at once.';
+    const sockets = game.missing === '' ? '' : ` ${game.missing} of its sockets aren't among them.`;
+    this.begin(name, game, `${name}.${sockets}${shapes}`);
     return true;
   }
 
@@ -189,8 +187,9 @@ export class Play extends Player {
     if (arcade.seconds < ANSWER_AFTER) return 'What will come of it?';
     const outcome = outcomeOf(arcade.counts), said = guess === null ? ''
       : `You said: ${OUTCOMES[guess]}. `;
-    return `${said}${OUTCOMES[outcome][0].toUpperCase()}${OUTCOMES[outcome].slice(1)}: `
-      + `${this.whyText(outcome)}`;
+    const pace = arcade.slow > 1 ? ', with fewer pictures' : ' as before';
+    return `${said}${OUTCOMES[outcome][0].toUpperCase()}${OUTCOMES[outcome].slice(1)}`
+      + `${outcome === 'on' ? pace : ''}: ${this.whyText(outcome)}`;
   }
 
   /* Why it is so, by what was counted. */

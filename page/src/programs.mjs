@@ -11,16 +11,24 @@ import {
 export const ENTRIES = new Map(ROUTINES.map(([at, name, needs, leaves]) => (
   [at, { name, needs, leaves }])));
 
-export const isCode = (at) => at >= DRIVER_END && at < CODE_END;
-export const isDriver = (at) => at >= START && at < DRIVER_END;
-
 const isIn = (name, at) => RANGES[name].some(([low, high]) => at >= low && at < high);
+
+/* Whether the program that is looked at is for Asteroids Deluxe, which has more ROM and outputs. */
+let isDeluxe = false;
+export function takeBoardOf(program) {
+  isDeluxe = program.low < START;
+  return isDeluxe;
+}
+
+export const isCode = (at) => (at >= DRIVER_END && at < CODE_END) || (isDeluxe && isIn('low', at));
+export const isDriver = (at) => at >= START && at < DRIVER_END;
 
 /* The driver's bytes, but dvg_y and dvg_x. */
 export const isOwn = (at) => isIn('own', at);
 
 /* Whether code of a level may write there. */
-export const mayWrite = (level, at) => WRITABLE[level].some((name) => isIn(name, at));
+export const mayWrite = (level, at) => WRITABLE[level].some((name) => isIn(name, at))
+  || (isDeluxe && isIn('deluxe', at));
 
 export const isStrobe = (at) => isIn('strobe', at % PROGRAM_END);
 
@@ -34,16 +42,19 @@ const textAt = (rows, at) => rows.find(([low, high]) => at >= low && at < high)[
 
 /* What stands at an address that a game must not write, and what to write in place of a store. */
 export const placeText = (at) => filled(textAt(STANDS, at), {
-  byte: hex(at, 2), names: 'asteroids.inc', mirror: hex(at % PROGRAM_END, 4),
+  byte: hex(at, 2), names: isDeluxe ? 'deluxe.inc' : 'asteroids.inc',
+  mirror: hex(at % PROGRAM_END, 4),
 });
 export const cureOf = (at) => textAt(CURES, at);
+
+const [[LOW]] = RANGES.low;
 
 /* The labels of a program, of the lines that the linker writes: a Map of names by addresses. */
 export function labelsOf(text) {
   const labels = new Map();
   for (const [, word, label] of text.matchAll(/^al (\w+) \.(\S+)$/gm)) {
     const at = parseInt(word, 16);
-    if (at < START || at >= PROGRAM_END || isDriver(at) || /^(__|dvg_)|-/.test(label)) continue;
+    if (at < LOW || at >= PROGRAM_END || isDriver(at) || /^(__|dvg_)|-/.test(label)) continue;
     if (!labels.has(at)) labels.set(at, label);
   }
   return labels;

@@ -6,8 +6,8 @@ const MARGIN = 10 * UNIT;
 /* A stroke has several widths, in units: in each it is so strong. */
 const WIDTHS = [[10, 0.09], [5.5, 0.22], [2.1, 1]];
 const THIN = [[1.6, 1]], SMALL = [[12, 0.15], [4, 1]];
-/* How long a dash is and the gap behind it: so who sees no colours tells strokes apart. */
-const DASH = 9 * UNIT, GAP = 9 * UNIT;
+/* How long a dash is, and a gap at least: so who sees no colours tells strokes apart. */
+const DASH = 7 * UNIT, GAP = 7 * UNIT;
 /* How many levels of light are a strength of 1, and how many steps of distance a pixel. */
 const STRENGTH_LEVELS = 194, PIXEL_STEPS = 16;
 
@@ -27,14 +27,16 @@ function linesOfStroke([x0, y0, x1, y1]) {
   return lines;
 }
 
-/* The dashes of a line. */
-function dashesOf([x0, y0, x1, y1]) {
-  const length = Math.hypot(x1 - x0, y1 - y0), step = (DASH + GAP) / length, dashes = [];
-  for (let from = 0; from < 1; from += step) {
-    const to = Math.min(1, from + DASH / length), at = (a, b, part) => a + (b - a) * part;
-    dashes.push([at(x0, x1, from), at(y0, y1, from), at(x0, x1, to), at(y0, y1, to)]);
-  }
-  return dashes;
+/* The dashes of a line, of which there is one at each end; a short line is one. */
+function dashesOf(line) {
+  const [x0, y0, x1, y1] = line, length = Math.hypot(x1 - x0, y1 - y0);
+  const gaps = Math.floor((length - DASH) / (DASH + GAP)), step = (length - DASH) / gaps;
+  if (gaps < 1) return [line];
+  return Array.from({ length: gaps + 1 }, (_, k) => {
+    const [from, to] = [k * step / length, (k * step + DASH) / length];
+    return [x0 + (x1 - x0) * from, y0 + (y1 - y0) * from, x0 + (x1 - x0) * to,
+      y0 + (y1 - y0) * to];
+  });
 }
 
 /* The levels of light by the distance from a stroke, at a scale of pixels; the last one is 0. */

@@ -1,5 +1,5 @@
-/* The board's sounds: which of them are on, by what is written, and how they are made here, by
- * oscillators and noise. They are rough: the board has circuits. Tested, not proved. */
+/* The boards' sounds: which of them are on, by what is written, and how they are made here, by
+ * oscillators and noise. They are rough: the boards have circuits. Tested, not proved. */
 
 /* What is written for them, as board/asteroids.inc names it. */
 export const SOUND = {
@@ -11,17 +11,25 @@ const LOUD_BITS = 0x3C, THUMP_ON = 0x10, SOUND_ON = 0x80;
 const ON_BITS = new Map(Object.values(SOUND).map((at) => [at, SOUND_ON]));
 ON_BITS.set(SOUND.EXPLOSION, LOUD_BITS).set(SOUND.THUMP, THUMP_ON);
 
+/* Asteroids Deluxe has only two of these, and the four voices of a POKEY: of each a byte says how
+ * low it is, and the next one how loud, and whether it is a tone. */
+const SOUNDS_OF_DELUXE = [SOUND.EXPLOSION, SOUND.THRUST];
+export const POKEY = 0x2C00;
+const VOICES = [0, 1, 2, 3].map((k) => POKEY + 2 * k + 1), VOICE_LOUD = 0x0F, TONE = 0xA0;
+
 /* The bytes that were written last, and since when each sound is on; `changes` are those that
  * nobody has taken yet. Times are in seconds of the board. */
 export class Latches {
-  constructor() {
-    Object.assign(this, { bytes: new Map(), since: new Map(), changes: [] });
+  constructor(isDeluxe = false) {
+    const bits = isDeluxe ? SOUNDS_OF_DELUXE.map((at) => [at, ON_BITS.get(at)]) : ON_BITS;
+    Object.assign(this, { bytes: new Map(), since: new Map(), changes: [], bits: new Map(bits) });
+    if (isDeluxe) for (const at of VOICES) this.bits.set(at, VOICE_LOUD).set(at - 1, 0);
   }
 
   write(at, byte, time) {
-    if (!ON_BITS.has(at) || this.bytes.get(at) === byte) return;
+    if (!this.bits.has(at) || this.bytes.get(at) === byte) return;
     this.bytes.set(at, byte);
-    if ((byte & ON_BITS.get(at)) === 0) this.since.delete(at);
+    if ((byte & this.bits.get(at)) === 0) this.since.delete(at);
     else if (!this.since.has(at)) this.since.set(at, time);
     this.changes.push({ at, byte, time });
   }
@@ -41,6 +49,8 @@ const NOISE_VALUES = 16000, NOISE_HERTZ = 8000, NOISE_CLOCK = 12000, DIVIDERS = 
  * next; a new ship's. */
 const SAUCERS = [900, 600], WAVES = 200, WAVES_HERTZ = 6, SHOT = [820, 110, 0.28];
 const THUMPS = [45, 3], SHIP_HERTZ = 3000;
+/* The highest tone of a voice of the POKEY: the board's clock by 28, and by 2. */
+const POKEY_HERTZ = 1512000 / 56;
 
 export class Speaker {
   constructor() {
@@ -62,6 +72,7 @@ export class Speaker {
     const waves = this.tone('sine', WAVES_HERTZ);
     waves.connect(this.gain(WAVES, this.voices.get(SOUND.SAUCER).source.frequency));
     waves.start();
+    for (const at of VOICES) this.voices.set(at, this.voice(this.tone('square', 0), 8000));
   }
 
   /* --- Parts --- */
@@ -98,7 +109,8 @@ export class Speaker {
 
   /* Goes on with what these latches hold, or is silent. */
   follow(latches, isOn) {
-    if (isOn) for (const at of ON_BITS.keys()) this.take(at, latches.bytes.get(at) ?? 0, 0);
+    const places = [...ON_BITS.keys(), ...VOICES.flatMap((at) => [at - 1, at])];
+    if (isOn) for (const at of places) this.take(at, latches.bytes.get(at) ?? 0, 0);
     if (isOn !== this.isOn) this.context[isOn ? 'resume' : 'suspend']();
     this.isOn = isOn;
   }
@@ -109,6 +121,7 @@ export class Speaker {
     const time = Math.max(this.last, this.context.currentTime + LATE - before);
     const isOn = (byte & ON_BITS.get(at)) !== 0;
     this.last = time;
+    if (at < SOUND.EXPLOSION) return this.takeVoice(at, byte, time);
     if (at === SOUND.SAUCER_LARGE) {
       const { frequency } = this.voices.get(SOUND.SAUCER).source;
       return frequency.setValueAtTime(SAUCERS[Number(isOn)], time);
@@ -122,6 +135,14 @@ export class Speaker {
       this.fall(source.frequency, time);
     }
     const loud = at === SOUND.EXPLOSION ? (byte & LOUD_BITS) / LOUD_BITS : Number(isOn);
+    return level.setTargetAtTime(loud, time, SOFT);
+  }
+
+  /* A byte for a voice of the POKEY. What isn't a tone there is one here, half as loud. */
+  takeVoice(at, byte, time) {
+    const { source: { frequency }, level } = this.voices.get(at | 1);
+    if (!VOICES.includes(at)) return frequency.setValueAtTime(POKEY_HERTZ / (byte + 1), time);
+    const loud = (byte & VOICE_LOUD) / VOICE_LOUD / ((byte & TONE) === TONE ? 1 : 2);
     return level.setTargetAtTime(loud, time, SOFT);
   }
 

@@ -12,7 +12,9 @@ export const RANGES = {
 "ram": [[0, 16], [33, 256], [512, 1024]],
 "output": [[12800, 12801], [13312, 13313], [13824, 13825], [14848, 14849], [15360, 15366], [15872, 15873]],
 "strobe": [[12288, 12800]],
-"list": [[18432, 32768]]
+"list": [[18432, 32768]],
+"deluxe": [[11264, 11280], [12801, 12864], [15366, 15368]],
+"low": [[24576, 26624]]
 };
 export const WRITABLE = {
 "main": ["ram", "output", "operand", "own"],
@@ -156,6 +158,7 @@ export const SAID = {
 "dvg_put": "put at {where}",
 "dvg_pair": "put by dvg_pair at {where}",
 "summary": "{count} instructions behind TXS, {calls} subroutines; at most {stack} bytes of the stack, and {fuel} instructions of the NMI",
+"deluxe": ". The outputs of deluxe.inc and ROM below 6800 are allowed, without a proof",
 "no_calls": "it calls neither dvg_offer, dvg_put nor dvg_pair",
 "no_others": "{tables} tables checked, {words} words checked; there are no others",
 "others": "{tables} tables checked, {words} words checked; there are others"

@@ -96,8 +96,8 @@ export function tearText({ wrong, word: { event, read } }, picture) {
 
 /* How much of a torn picture is red. */
 export function redText(wrong, { strokes: { length } }) {
-  return length === 0 ? 'The run drew no stroke.' : `${wrong.length} of ${length} strokes are `
-    + 'red and dashed: they aren\'t of the frame that the run began with.';
+  return length === 0 ? 'The run drew no stroke.' : `${wrong.length} of ${length} strokes, red and `
+    + 'dashed, aren\'t of the frame that the run began with.';
 }
 
 /* The byte that came in between, as a log has it. */

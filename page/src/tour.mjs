@@ -21,8 +21,8 @@ export const TOUR_STEPS = [
   {
     title: 'Torn', cut: true, least: 0,
     text: `This picture began as one frame and went on as a later one. The thin lines are both
-      frames, whole. The red, dashed strokes came from the later one; the ring marks where the tear
-      begins. With the wire, the driver would have waited. Mend it, press Run, and see.`,
+      frames, whole. Red, dashed strokes are the later one's; the ring marks where the tear begins.
+      With the wire, the driver would have waited. Mend it, and press Run.`,
   },
 ];
 
