@@ -3,13 +3,16 @@
  *
  *     core_cpu INSTRUCTIONS SEED
  *     core_cpu SUMS SEED sums
+ *     core_cpu STARTS SEED program PROGRAM RAMS
  *
  * Each access of an instruction is compared in its order, but for the dummy ones, which the circuit
  * leaves out. Before most instructions A, X, Y and the flags are loaded, and after most they are
  * stored. With `sums` they are ADC and SBC, of any mode, until so many had D set: A and the flags
  * are stored after each, and most others begin with what the one before left, amid what sets D and
- * clears it, pushes and pulls flags, compares and counts. Prints what was played, or the first
- * difference (status 1). */
+ * clears it, pushes and pulls flags, compares and counts. With `program` it is PROGRAM, 6,144 bytes
+ * for the board, up to its write of 3000 of that number, from 1. RAMS has 2,048 bytes for each: what
+ * 4000 to 47FF are then. No NMI comes, and the self-test switch is closed. Prints what was played,
+ * or the first difference (status 1). */
 #include "Vdvg_cpu.h"
 #include <string>
 #include "core_bench.h"
@@ -17,7 +20,8 @@ extern "C" {
 #include "board_cpu.h"
 }
 
-enum { PLACES = 65536 };
+enum { PLACES = 65536, RAM = 0x4000, RAM_BYTES = 2048, PROGRAM_BYTES = 0x1800 };
+enum { STROBE = 0x3000, SELF_TEST = 0x2007, MIRROR = 0x8000 };
 
 struct Access {
     bool write;
@@ -26,13 +30,15 @@ struct Access {
 };
 
 static struct {
-    uint64_t instructions, sums, cycles, waits, nmis, unknown, resets, amid;
+    uint64_t instructions, sums, cycles, waits, nmis, unknown, resets, amid, starts;
 } counts;
 
 static Vdvg_cpu circuit;
 static cpu port;
 static uint8_t memory[PLACES], ports[PLACES];
 static std::vector<Access> made, wanted;
+/* The vector RAM at each strobe of a program, if one is played. */
+static std::vector<uint8_t> rams;
 /* The instruction writes a byte back, and first as it was. */
 static bool changes;
 /* `nmi`, when it was looked at last, and whether an NMI is to come. */
@@ -64,6 +70,17 @@ static uint8_t any_byte()
     return (uint8_t)(once_in(2) ? edges[below(8)] : below(256));
 }
 
+/* A program sends the strobe. */
+static void agree_on_ram()
+{
+    agree("a start", counts.starts * RAM_BYTES < rams.size(), 1);
+    const uint8_t *ram = &rams[counts.starts++ * RAM_BYTES];
+    done_so_far = counts.starts;
+    for (int at = 0; at < RAM_BYTES; at++) {
+        agree("a byte of the vector RAM", memory[RAM + at], ram[at]);
+    }
+}
+
 /* A cycle, after some clocks without one. */
 static void play_cycle()
 {
@@ -76,12 +93,15 @@ static void play_cycle()
         counts.waits++;
     }
     circuit.step = 1;
-    circuit.nmi = was ? !once_in(3) : once_in(200);
+    circuit.nmi = was ? !once_in(3) : rams.empty() && once_in(200);
     circuit.din = below(256);
     circuit.eval();
     Access access = {(bool)circuit.write, circuit.at, memory[circuit.at]};
     if (access.write) {
         access.byte = memory[access.at] = circuit.dout;
+        if (access.at == STROBE && !rams.empty()) {
+            agree_on_ram();
+        }
     } else {
         circuit.din = access.byte;
     }
@@ -181,8 +201,10 @@ static void store_registers()
 /* What a reset leads to: S, I and PC, and nothing else. */
 static void begin_anew()
 {
-    put(0xFFFC, (uint8_t)below(256));
-    put(0xFFFD, (uint8_t)(3 + below(0xF0)));
+    if (rams.empty()) {
+        put(0xFFFC, (uint8_t)below(256));
+        put(0xFFFD, (uint8_t)(3 + below(0xF0)));
+    }
     for (int k = 0; k < 2; k++) {
         play_cycle();
         wanted.push_back({false, (uint16_t)(0xFFFC + k), ports[0xFFFC + k]});
@@ -265,17 +287,61 @@ static void play_sum()
     play(0x85, any_byte(), 0);
 }
 
+static std::vector<uint8_t> read_file(const char *path)
+{
+    std::vector<uint8_t> bytes;
+    FILE *file = fopen(path, "rb");
+    for (int byte; file && (byte = fgetc(file)) != EOF;) {
+        bytes.push_back((uint8_t)byte);
+    }
+    return bytes;
+}
+
+/* A program of the board, which doesn't decode A15, and what RAM is at its starts. */
+static void load_program(const char *path, const char *path_of_rams)
+{
+    std::vector<uint8_t> program = read_file(path);
+    rams = read_file(path_of_rams);
+    if (program.size() != PROGRAM_BYTES || rams.empty()) {
+        exit(64);
+    }
+    for (int at = 0; at < PROGRAM_BYTES; at++) {
+        put((uint16_t)(MIRROR - PROGRAM_BYTES + at), program[at]);
+        put((uint16_t)(2 * MIRROR - PROGRAM_BYTES + at), program[at]);
+    }
+    put(SELF_TEST, 0xFF);
+}
+
+static void play_program(uint64_t starts, uint64_t seed)
+{
+    while (counts.starts < starts) {
+        play_next();
+        counts.instructions++;
+    }
+    printf("%" PRIu64 " instructions of a program, %" PRIu64 " cycles, %" PRIu64 " waits; at %"
+           PRIu64 " starts the RAM agrees, seed %" PRIu64 "\n",
+        counts.instructions, counts.cycles, counts.waits, counts.starts, seed);
+}
+
 int main(int argc, char **argv)
 {
-    bool has_sums = argc > 3 && std::string(argv[3]) == "sums";
+    std::string what = argc > 3 ? argv[3] : "";
+    bool has_sums = what == "sums";
     uint64_t seed, wanted = read_arguments(argc, argv, &seed);
     ready_opcodes();
     for (int at = 0; at < PLACES; at++) {
         put((uint16_t)at, (uint8_t)below(256));
     }
+    if (what == "program" && argc == 6) {
+        load_program(argv[4], argv[5]);
+    }
     circuit.clk = circuit.reset = circuit.step = circuit.nmi = 0;
     circuit.eval();
     begin_anew();
+    if (!rams.empty()) {
+        play_program(wanted, seed);
+        return 0;
+    }
     while ((has_sums ? counts.sums : counts.instructions) < wanted) {
         done_so_far = counts.instructions;
         has_sums ? play_sum() : play_any();
