@@ -32,23 +32,38 @@ use Rattle.std.proofs.Common.{{◌≡◌, [], ◌∷◌, refl}}
 use Rattle.dvg_calls_6502.proofs.Vectors.{{wrong_from, gives}}
 """
 
+# How long a line of steps may be.
+COLUMNS = 120
+
 # How many steps are proved at once: of some more the prover would not say which one is wrong.
-AT_ONCE = 100
+AT_ONCE = 50
 
 
-def line(row):
-    """A step: numbers of its memory, the opcode in hex, the state before and after, and the bytes
-    that it writes."""
+def state(row):
+    """A, X, Y and S, two digits each, PC, four, and N, Z, C, V, D and I, a bit each in two."""
+    *registers, pc = map(int, row[:5])
+    return f"0x{bytes(registers).hex().upper()}{pc:04X}{int(''.join(row[5:]), 2):02X}"
+
+
+def step(row):
+    """A step: the number of its memory and its three bytes, two digits each, the state before and
+    after, and the bytes that it writes."""
     written = dict.fromkeys([(row[26], row[27]), (row[28], row[29])])
     writes = "".join(f"({place}, {byte}) ∷ " for place, byte in written if place != "65536")
-    numbers = [row[0], f"0x{int(row[1]):02X}"] + row[2:26]
-    return f"    gives {' '.join(numbers)} {f'({writes}[])' if writes else '[]'} ∷\n"
+    what = f"0x{bytes(map(int, row[:4])).hex().upper()}"
+    return (f"gives {what} {state(row[4:15])} {state(row[15:26])}"
+            f" {f'({writes}[])' if writes else '[]'} ∷")
 
 
 def proof(part, first, rows):
-    """Steps, the first of which stands on this line, and that they all pass."""
-    steps = "".join(line(row) for row in rows)
-    return f"\npub pass_{part} : wrong_from {first} (\n{steps}    []) ≡ []\npass_{part} = refl\n"
+    """Steps, the first of which has this number, and that they all pass."""
+    lines = [""]
+    for text in map(step, rows):
+        if lines[-1] and len(f"{lines[-1]} {text}") > COLUMNS:
+            lines.append("")
+        lines[-1] += f" {text}" if lines[-1] else f"    {text}"
+    steps = "\n".join(lines)
+    return f"\npub pass_{part} : wrong_from {first} (\n{steps}\n    []) ≡ []\npass_{part} = refl\n"
 
 
 def file_of(row):
@@ -66,7 +81,8 @@ def write(lines, folder):
         rows = [row for row in steps if file_of(row) == name]
         text = HEAD.format(does=does)
         for part in range((len(rows) + AT_ONCE - 1) // AT_ONCE):
-            text += proof(part + 1, text.count("\n") + 3, rows[part * AT_ONCE:(part + 1) * AT_ONCE])
+            first = part * AT_ONCE
+            text += proof(part + 1, first + 1, rows[first:first + AT_ONCE])
         with open(os.path.join(folder, name + ".antt"), "w", encoding="utf-8") as file:
             file.write(text)
 

@@ -83,9 +83,8 @@ looked b = let e : bit_and b 2 ≡ b / 2 % 2 * 2 = and_pow b 1 in ap (λ m. bit_
     ∙ by (b / 2 % 2) (omega arith)
   where
     by : (t : ℕ) → t < 2 → bit_xor (t * 2) 0xE2 ≡ high (other (if t == 0 then H0 else H1))
-    by zero h = refl
-    by (suc zero) h = refl
     by (suc (suc t)) h = absurd (omega arith)
+    by _ h = refl
 
 pub high_small : (half : Half) → high half < 256
 high_small H0 = omega arith

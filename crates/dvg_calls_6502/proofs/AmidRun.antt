@@ -37,31 +37,18 @@ moves instr = false
 
 set_s : (r : Register) (v : ℕ) (k : Cpu) → (setting r v k).s ≡ k.s
 set_s A v k = refl
-set_s X v k = refl
-set_s Y v k = refl
+set_s _ v k = refl
 
 read_s : (mode : Mode) (cpu : Cpu) → (reading mode cpu).s ≡ cpu.s
 read_s Immediate cpu = refl
-read_s ZeroPage cpu = refl
-read_s ZeroPageX cpu = refl
-read_s Absolute cpu = refl
-read_s ZeroPageY cpu = refl
-read_s AbsoluteX cpu = refl
-read_s AbsoluteY cpu = refl
-read_s IndexedIndirect cpu = refl
-read_s IndirectIndexed cpu = refl
+read_s _ cpu = refl
 
 flag_s : (f : Flag) (to : Bool) (k : Cpu) → (flagging f to k).s ≡ k.s
 flag_s Negative to k = refl
-flag_s Zero to k = refl
-flag_s Carry to k = refl
-flag_s Overflow to k = refl
-flag_s Decimal to k = refl
-flag_s Interrupt to k = refl
+flag_s _ to k = refl
 
 s_stays : (i : Instr) (cpu : Cpu) → moves i ≡ false → (does i cpu).s ≡ cpu.s
 s_stays (Load r mode) cpu is = set_s r _ (reading mode cpu) ∙ read_s mode cpu
-s_stays (Store r mode) cpu is = refl
 s_stays (Transfer r t) cpu is = set_s t _ (record cpu { pc = cpu.pc + 1 })
 s_stays (And mode) cpu is = read_s mode cpu
 s_stays (Or mode) cpu is = read_s mode cpu
@@ -73,22 +60,16 @@ s_stays (TestBits mode) cpu is = read_s mode cpu
 s_stays (Change mode by) cpu is = read_s mode cpu
 s_stays (Step r by) cpu is = set_s r _ (record cpu { pc = cpu.pc + 1 })
 s_stays (ShiftAt shift mode) cpu is = read_s mode cpu
-s_stays (ShiftA shift) cpu is = refl
 s_stays (Set flag to) cpu is = flag_s flag to (record cpu { pc = cpu.pc + 1 })
-s_stays (Branch flag when) cpu is = refl
-s_stays Jump cpu is = refl
 s_stays Call cpu is = absurd (cc)
 s_stays Return cpu is = absurd (cc)
-s_stays JumpAt cpu is = refl
 s_stays PushA cpu is = absurd (cc)
 s_stays PushFlags cpu is = absurd (cc)
 s_stays PullA cpu is = absurd (cc)
 s_stays PullFlags cpu is = absurd (cc)
-s_stays FromStack cpu is = refl
 s_stays ToStack cpu is = absurd (cc)
 s_stays Resume cpu is = absurd (cc)
-s_stays Pass cpu is = refl
-s_stays Unknown cpu is = refl
+s_stays _ cpu is = refl
 
 neither : (t u : Bool) → (not t && u) ≡ true → t ≡ true → ⊥
 neither true u is t = absurd (cc)
@@ -191,15 +172,10 @@ module _ (kept : ℕ → Bool) (s : ℕ) (cpu : Cpu) (m : ℕ → ℕ)
   grows (Branch flag when) = flat (Branch flag when) refl
   grows Jump = flat Jump refl
   grows JumpAt = flat JumpAt refl
-  grows PushA = λ e home b is. absurd (cc)
-  grows PushFlags = λ e home b is. absurd (cc)
-  grows PullA = λ e home b is. absurd (cc)
-  grows PullFlags = λ e home b is. absurd (cc)
   grows FromStack = flat FromStack refl
-  grows ToStack = λ e home b is. absurd (cc)
-  grows Resume = λ e home b is. absurd (cc)
   grows Pass = flat Pass refl
   grows Unknown = flat Unknown refl
+  grows _ = λ e home b is. absurd (cc)
 
   -- a step of a call amid others comes out as without them
   pub turned : is_steady kept s cpu ≡ true → CameOut (guards kept s) (turn s cpu) (turn s it)

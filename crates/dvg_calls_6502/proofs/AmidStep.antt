@@ -90,24 +90,18 @@ module _ (cpu : Cpu) (m : ℕ → ℕ) where
 
   setting_same : (r : Register) (v : ℕ) (k : Cpu) → setting r v (changed m k) ≡ changed m (setting r v k)
   setting_same A v k = refl
-  setting_same X v k = refl
-  setting_same Y v k = refl
+  setting_same _ v k = refl
 
   set_same : (r : Register) (v w : ℕ) (k l : Cpu) → v ≡ w → k ≡ changed m l → setting r v k ≡ changed m (setting r w l)
   set_same r v w k l vs ks = ap (λ v. setting r v k) vs ∙ ap (setting r w) ks ∙ setting_same r w l
 
   of_register_same : (r : Register) → of_register r it ≡ of_register r cpu
   of_register_same A = refl
-  of_register_same X = refl
-  of_register_same Y = refl
+  of_register_same _ = refl
 
   of_flag_same : (f : Flag) → of_flag f it ≡ of_flag f cpu
   of_flag_same Negative = refl
-  of_flag_same Zero = refl
-  of_flag_same Carry = refl
-  of_flag_same Overflow = refl
-  of_flag_same Decimal = refl
-  of_flag_same Interrupt = refl
+  of_flag_same _ = refl
 
   -- what writes nothing
   quiet : (after other : Cpu) → other ≡ changed m after → after.mem ≡ cpu.mem → Same cpu after other m
@@ -119,19 +113,11 @@ module _ (cpu : Cpu) (m : ℕ → ℕ) where
 
   set_kept : (r : Register) (v : ℕ) (k : Cpu) → (setting r v k).mem ≡ k.mem
   set_kept A v k = refl
-  set_kept X v k = refl
-  set_kept Y v k = refl
+  set_kept _ v k = refl
 
   reading_kept : (mode : Mode) → (reading mode cpu).mem ≡ cpu.mem
   reading_kept Immediate = refl
-  reading_kept ZeroPage = refl
-  reading_kept ZeroPageX = refl
-  reading_kept Absolute = refl
-  reading_kept ZeroPageY = refl
-  reading_kept AbsoluteX = refl
-  reading_kept AbsoluteY = refl
-  reading_kept IndexedIndirect = refl
-  reading_kept IndirectIndexed = refl
+  reading_kept _ = refl
 
   load : (r : Register) (mode : Mode) → Ok (Load r mode)
   load r mode e = quiet _ _ (set_same r _ _ _ _ (operand_same mode e) (reading_same mode e))
@@ -199,14 +185,7 @@ module _ (cpu : Cpu) (m : ℕ → ℕ) where
 
   naming_same : (mode : Mode) → Agree m cpu.mem (named mode cpu) → Agree m cpu.mem (naming mode cpu)
   naming_same Immediate e = tt
-  naming_same ZeroPage e = e.1
-  naming_same ZeroPageX e = e.1
-  naming_same Absolute e = e.1
-  naming_same ZeroPageY e = e.1
-  naming_same AbsoluteX e = e.1
-  naming_same AbsoluteY e = e.1
-  naming_same IndexedIndirect e = e.1
-  naming_same IndirectIndexed e = e.1
+  naming_same _ e = e.1
 
   -- a byte is changed
   change_as : (mode : Mode) (v w : ℕ) → v ≡ w → Agree m cpu.mem (named mode cpu)
@@ -276,11 +255,7 @@ module _ (cpu : Cpu) (m : ℕ → ℕ) where
 
   set_flag_same : (f : Flag) (to : Bool) → Ok (Set f to)
   set_flag_same Negative to e = quiet _ _ refl refl
-  set_flag_same Zero to e = quiet _ _ refl refl
-  set_flag_same Carry to e = quiet _ _ refl refl
-  set_flag_same Overflow to e = quiet _ _ refl refl
-  set_flag_same Decimal to e = quiet _ _ refl refl
-  set_flag_same Interrupt to e = quiet _ _ refl refl
+  set_flag_same _ to e = quiet _ _ refl refl
 
   resume_same : Ok Resume
   resume_same e = quiet _ _
@@ -325,7 +300,6 @@ module _ (cpu : Cpu) (m : ℕ → ℕ) where
   does_same (Add mode) = add_same mode
   does_same (Subtract mode) = subtract_same mode
   does_same (ShiftAt shift mode) = shift_same shift mode
-  does_same (ShiftA shift) = λ e. quiet _ _ refl refl
   does_same (Set f to) = set_flag_same f to
   does_same (Branch f when) = branch_same f when
   does_same Jump = jump_same
@@ -336,11 +310,8 @@ module _ (cpu : Cpu) (m : ℕ → ℕ) where
   does_same PushFlags = λ e. writes _ _ (stack_place cpu.s) (flags_byte true cpu) refl refl
   does_same PullA = λ e. quiet _ _ (ap (λ b. setting A b (record (next 1 it) { s = (cpu.s + 1) % 256 })) e.0) refl
   does_same PullFlags = λ e. quiet _ _ (ap (λ b. with_flags b (record (next 1 it) { s = (cpu.s + 1) % 256 })) e.0) refl
-  does_same FromStack = λ e. quiet _ _ refl refl
-  does_same ToStack = λ e. quiet _ _ refl refl
   does_same Resume = resume_same
-  does_same Pass = λ e. quiet _ _ refl refl
-  does_same Unknown = λ e. quiet _ _ refl refl
+  does_same _ = λ e. quiet _ _ refl refl
 
   -- a step
   pub stepped : m cpu.pc ≡ cpu.mem cpu.pc → Agree m cpu.mem (touches (decoded opcodes (cpu.mem cpu.pc)) cpu)

@@ -388,20 +388,12 @@ module _ (cpu : Cpu) (half : Half) (flipped : Bool) (rest : List ℕ) (load : Is
   builder_stays (Puts Put) is on = put_stays cpu (is_here 0x6957 is) building.low goes_low goes_high goes_small
   builder_stays (Puts Pair) is on =
       pair_stays cpu (is_here 0x6989 is) building.low goes_low goes_small building.even goes_far
-  builder_stays (Puts Labs) is on = absurd (cc)
-  builder_stays (Puts Vector) is on = absurd (cc)
   builder_stays Close is on =
       let e : (cpu.mem 0x13 + 0) % 256 ≡ cpu.mem 0x13 = let s = goes_small in omega (arith, s) in
       close_stays cpu (is_here 0x6A00 is)
       (subst (λ p. InRam ((cpu.mem 0x14 + 256 * cpu.mem 0x15 + p) % 65536)) e (halt_ram 0 (omega arith)))
       (halt_ram 1 (omega arith))
-  builder_stays Reset is on = absurd (cc)
-  builder_stays Tick is on = absurd (cc)
-  builder_stays Ticks is on = absurd (cc)
-  builder_stays Run is on = absurd (cc)
-  builder_stays (Offer F) is on = absurd (cc)
-  builder_stays Redraw is on = absurd (cc)
-  builder_stays (Open F) is on = absurd (cc)
+  builder_stays _ is on = absurd (cc)
 
 -- a call of a session, by what held before it
 before_it : (cpu : Cpu) (begin stop : ℕ) (frame : Option (ℕ × List ℕ)) (life : List Item) (routine : Routine)

@@ -124,16 +124,12 @@ module _ (mem : ℕ → ℕ) (begin stop : ℕ) (frame : Option (ℕ × List ℕ
               (not_idle mem begin stop stood.stage.place stood.stage.half stood.stage.flipped stood.holds.place is)
 
           at_place : (place : Place) → stood.stage.place ≡ place → P
-          at_place Start is = elsewhere (subst IsBusy (sym is) tt)
-          at_place Booting is = elsewhere (subst IsBusy (sym is) tt)
           at_place (Resting first) is = rests none stood first is (record {
             flipped = stood.holds.flipped;
             place = subst (λ place. HoldsPlace mem begin stop place stood.stage.half stood.stage.flipped) is
                 stood.holds.place;
           })
-          at_place (Writing writes) is = elsewhere (subst IsBusy (sym is) tt)
-          at_place (Waiting first) is = elsewhere (subst IsBusy (sym is) tt)
-          at_place (Sending first) is = elsewhere (subst IsBusy (sym is) tt)
+          at_place _ is = elsewhere (subst IsBusy (sym is) tt)
 
 -- a driver that builds, at a place of the code
 module _ (q a x y s : ℕ) (n z c v d i : Bool) (mem flags : ℕ → ℕ) (log : List Access) (begin stop : ℕ) (frame : ℕ × List ℕ)

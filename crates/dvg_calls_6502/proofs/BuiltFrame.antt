@@ -31,20 +31,13 @@ Kind R op i len = ⊥
 put_kind : (R : List ℕ) (op : OpKind) (i len : ℕ) → IsPut R op → i + 1 < len → Kind R op i len
 put_kind R (Draw instr) i len put less = less
 put_kind R (CallRom a) i len put less = (less, put)
-put_kind R (JumpRom a) i len put less = absurd put
-put_kind R (Call j) i len put less = absurd put
-put_kind R (Jump j) i len put less = absurd put
-put_kind R Return i len put less = absurd put
-put_kind R Stop i len put less = absurd put
+put_kind R _ i len put less = absurd put
 
 kind_suc : (R : List ℕ) (op : OpKind) (i len : ℕ) → Kind R op i len → Kind R op (suc i) (suc len)
 kind_suc R (Draw instr) i len k = omega (arith, k)
 kind_suc R (CallRom a) i len k = let less = k.0 in (omega (arith, less), k.1)
-kind_suc R (JumpRom a) i len k = absurd k
-kind_suc R (Call j) i len k = absurd k
-kind_suc R (Jump j) i len k = absurd k
-kind_suc R Return i len k = absurd k
 kind_suc R Stop i len k = omega (arith, k)
+kind_suc R _ i len k = absurd k
 
 kinds : (R : List ℕ) (ops : List OpKind) → All (IsPut R) ops → (i : ℕ) (op : OpKind)
     → slice_get (ops ++ Stop ∷ []) i ≡ Some op
@@ -63,21 +56,11 @@ kinds R (o ∷ ops) all (suc i) op is =
 -- what the ROM leads to stands in the ROM
 rom_jumps : (instr : Instr) (j : ℕ) → Jumps (InFrame j) ≡ act_by InRom instr → ⊥
 rom_jumps (Vctr scale dx dy z) j is = absurd (cc)
-rom_jumps (Labs x y scale) j is = absurd (cc)
-rom_jumps (Svec scale dx dy z) j is = absurd (cc)
-rom_jumps Stops j is = absurd (cc)
-rom_jumps (Jsrl a) j is = absurd (cc)
-rom_jumps Rtsl j is = absurd (cc)
-rom_jumps (Jmpl a) j is = absurd (cc)
+rom_jumps _ j is = absurd (cc)
 
 rom_calls : (instr : Instr) (j : ℕ) → Calls (InFrame j) ≡ act_by InRom instr → ⊥
 rom_calls (Vctr scale dx dy z) j is = absurd (cc)
-rom_calls (Labs x y scale) j is = absurd (cc)
-rom_calls (Svec scale dx dy z) j is = absurd (cc)
-rom_calls Stops j is = absurd (cc)
-rom_calls (Jsrl a) j is = absurd (cc)
-rom_calls Rtsl j is = absurd (cc)
-rom_calls (Jmpl a) j is = absurd (cc)
+rom_calls _ j is = absurd (cc)
 
 module _ (F G : List OpKind) (R : List ℕ) where
   stands_as : {b : ℕ} {act : Act Place} {after : Place} → Stands F R (InRom b) act after → Stands G R (InRom b) act after
@@ -137,13 +120,12 @@ module _ (R : List ℕ) (x y scale : ℕ) (ops : List OpKind) (all : All (IsPut 
   -- an operation that names a place names a shape
   names : (i : ℕ) (op : OpKind) (q : Place) → slice_get F i ≡ Some op → Names (op_act op) q
       → (a : ℕ) × (q ≡ InRom a) × Accepts (calls_one a) R × (op ≡ CallRom a) × (i + 1 < length F)
-  names i (Draw instr) q is named = absurd named
   names i (CallRom a) q is named = let k = kind i (CallRom a) is in (a, sym named, k.1, refl, k.0)
   names i (JumpRom a) q is named = absurd (kind i (JumpRom a) is)
   names i (Call j) q is named = absurd (kind i (Call j) is)
   names i (Jump j) q is named = absurd (kind i (Jump j) is)
   names i Return q is named = absurd (kind i Return is)
-  names i Stop q is named = absurd named
+  names i _ q is named = absurd named
 
   begins : Begins F
   begins = record {

@@ -38,13 +38,11 @@ module _ (F : List OpKind) (begins : Begins F) where
       by false is' = let less = leb-false (length F) j is' in omega (arith, less)
 
   fits : (i : ℕ) (op : OpKind) → slice_get F i ≡ Some op → NamesRom op → IsExpressible F op
-  fits i (Draw instr) is rom = tt
   fits i (CallRom a) is rom = rom
   fits i (JumpRom a) is rom = rom
   fits i (Call j) is rom = low_place F j (in_frame i j (Call j) is refl) begins.fits
   fits i (Jump j) is rom = low_place F j (in_frame i j (Jump j) is refl) begins.fits
-  fits i Return is rom = tt
-  fits i Halt is rom = tt
+  fits i _ is rom = tt
 
   all_fit : (ops : List OpKind)
       → ((i : ℕ) (op : OpKind) → slice_get ops i ≡ Some op → (k : ℕ) × (slice_get F k ≡ Some op))

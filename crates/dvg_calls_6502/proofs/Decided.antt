@@ -143,12 +143,7 @@ module _ (cpu : Cpu) (has : HasCode cpu.mem) (small : cpu.mem 0x10 < 256) where
   looked (calls.Puts Put) is busy = turned_at 0x6957 is (refuses3 with_y small (refuted (nat_eq phase 7) busy), refl)
   looked (calls.Puts Pair) is busy = turned_at 0x6989 is (refuses4 with_y small (refuted (nat_eq phase 7) busy), refl)
   looked calls.Close is busy = turned_at 0x6A00 is (refuses5 with_y small (refuted (nat_eq phase 7) busy), refl)
-  looked (calls.Puts Labs) is busy = absurd (cc)
-  looked (calls.Puts Vector) is busy = absurd (cc)
-  looked calls.Reset is busy = absurd (cc)
-  looked calls.Tick is busy = absurd (cc)
-  looked calls.Ticks is busy = absurd (cc)
-  looked calls.Run is busy = absurd (cc)
+  looked _ is busy = absurd (cc)
 
 -- where CLC and RTS are left
 module _ (cpu : Cpu) (is : is_leaving cpu.s cpu ≡ true) where

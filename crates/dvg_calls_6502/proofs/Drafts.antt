@@ -39,12 +39,8 @@ alike : (R : List ℕ) (half : Half) (G ops : List OpKind) → IsEnding R ops
 alike R half G [] ends = refl
 alike R half G (Draw instr ∷ ops) ends = ap (λ l. canon instr ++ l) (alike R half G ops ends.1)
 alike R half G (CallRom a ∷ ops) ends = ap (λ l. canon (Jsrl a) ++ l) (alike R half G ops ends.1)
-alike R half G (JumpRom a ∷ ops) ends = absurd ends.0
-alike R half G (Call j ∷ ops) ends = absurd ends.0
-alike R half G (Jump j ∷ ops) ends = absurd ends.0
-alike R half G (Return ∷ ops) ends = absurd ends.0
 alike R half G (Stop ∷ []) ends = refl
-alike R half G (Stop ∷ op ∷ ops) ends = absurd ends.0
+alike R half G _ ends = absurd ends.0
 
 table_is : (R : List ℕ) (ops : List OpKind) → IsEnding R ops → table_of ops ≡ bytes (words_of ops)
 table_is R ops ends = ap bytes (alike R H0 ops ops ends)
@@ -52,20 +48,12 @@ table_is R ops ends = ap bytes (alike R H0 ops ops ends)
 one_table : (R : List ℕ) (op : OpKind) → IsPut R op → table_of (op ∷ []) ≡ bytes (canon (op_code H0 [] op))
 one_table R (Draw instr) put = ap bytes (append-nil (canon instr))
 one_table R (CallRom a) put = ap bytes (append-nil (canon (Jsrl a)))
-one_table R (JumpRom a) put = absurd put
-one_table R (Call j) put = absurd put
-one_table R (Jump j) put = absurd put
-one_table R Return put = absurd put
-one_table R Stop put = absurd put
+one_table R _ put = absurd put
 
 ending_of : (R : List ℕ) (op : OpKind) (ops : List OpKind) → IsPut R op → IsEnding R ops → IsEnding R (op ∷ ops)
 ending_of R (Draw instr) ops put ends = (put, ends)
 ending_of R (CallRom a) ops put ends = (put, ends)
-ending_of R (JumpRom a) ops put ends = absurd put
-ending_of R (Call j) ops put ends = absurd put
-ending_of R (Jump j) ops put ends = absurd put
-ending_of R Return ops put ends = absurd put
-ending_of R Stop ops put ends = absurd put
+ending_of R _ ops put ends = absurd put
 
 -- the bytes of an operation, and of what comes after it
 pub table_on : (R : List ℕ) (op : OpKind) (ops : List OpKind) → IsPut R op → IsEnding R ops
@@ -87,12 +75,8 @@ pub ends_some : (R : List ℕ) (ops : List OpKind) → IsEnding R ops → 2 ≤ 
 ends_some R [] ends = absurd ends
 ends_some R (Draw instr ∷ ops) ends = more R (Draw instr) ops ends.0 ends.1 (ends_some R ops ends.1)
 ends_some R (CallRom a ∷ ops) ends = more R (CallRom a) ops ends.0 ends.1 (ends_some R ops ends.1)
-ends_some R (JumpRom a ∷ ops) ends = absurd ends.0
-ends_some R (Call j ∷ ops) ends = absurd ends.0
-ends_some R (Jump j ∷ ops) ends = absurd ends.0
-ends_some R (Return ∷ ops) ends = absurd ends.0
 ends_some R (Stop ∷ []) ends = omega arith
-ends_some R (Stop ∷ op ∷ ops) ends = absurd ends.0
+ends_some R _ ends = absurd ends.0
 
 pub buildable : (R : List ℕ) (ops : List OpKind) → IsEnding R ops → length (table_of ops) ≤ 1022 → IsBuildable ops
 buildable R ops ends fits = record {
@@ -109,12 +93,8 @@ before_halt R (Draw instr ∷ ops) ends = let rest = before_halt R ops ends.1 in
     (Draw instr ∷ rest.0, ap (λ l. Draw instr ∷ l) rest.1, All-cons (IsPut R) (Draw instr) rest.0 ends.0 rest.2)
 before_halt R (CallRom a ∷ ops) ends = let rest = before_halt R ops ends.1 in
     (CallRom a ∷ rest.0, ap (λ l. CallRom a ∷ l) rest.1, All-cons (IsPut R) (CallRom a) rest.0 ends.0 rest.2)
-before_halt R (JumpRom a ∷ ops) ends = absurd ends.0
-before_halt R (Call j ∷ ops) ends = absurd ends.0
-before_halt R (Jump j ∷ ops) ends = absurd ends.0
-before_halt R (Return ∷ ops) ends = absurd ends.0
 before_halt R (Stop ∷ []) ends = ([], refl, All-nil (IsPut R))
-before_halt R (Stop ∷ op ∷ ops) ends = absurd ends.0
+before_halt R _ ends = absurd ends.0
 
 pub is_built : (R : List ℕ) (ops : List OpKind) → IsEnding R ops → HasLabs ops → length (table_of ops) ≤ 1022
     → IsBuilt R ops
@@ -124,18 +104,7 @@ is_built R (Draw (Labs x y scale) ∷ ops) ends labs fits =
     let words = laid_length H0 (Draw (Labs x y scale) ∷ ops) in
     let double = bytes-length (laid H0 (Draw (Labs x y scale) ∷ ops)) in
     (x, y, scale, rest.0, ap (λ l. Draw (Labs x y scale) ∷ l) rest.1, rest.2, omega (arith, words, double, fits))
-is_built R (Draw (Vctr scale dx dy z) ∷ ops) ends labs fits = absurd labs
-is_built R (Draw (Svec scale dx dy z) ∷ ops) ends labs fits = absurd labs
-is_built R (Draw Stops ∷ ops) ends labs fits = absurd labs
-is_built R (Draw (Jsrl a) ∷ ops) ends labs fits = absurd labs
-is_built R (Draw Rtsl ∷ ops) ends labs fits = absurd labs
-is_built R (Draw (Jmpl a) ∷ ops) ends labs fits = absurd labs
-is_built R (CallRom a ∷ ops) ends labs fits = absurd labs
-is_built R (JumpRom a ∷ ops) ends labs fits = absurd labs
-is_built R (Call j ∷ ops) ends labs fits = absurd labs
-is_built R (Jump j ∷ ops) ends labs fits = absurd labs
-is_built R (Return ∷ ops) ends labs fits = absurd labs
-is_built R (Stop ∷ ops) ends labs fits = absurd labs
+is_built R _ ends labs fits = absurd labs
 
 -- each operation has a word or more
 two_bytes : (R : List ℕ) (op : OpKind) → IsPut R op → 2 ≤ length (table_of (op ∷ []))
@@ -147,11 +116,7 @@ two_bytes R (Draw (Jsrl a)) put = omega arith
 two_bytes R (Draw Rtsl) put = omega arith
 two_bytes R (Draw (Jmpl a)) put = omega arith
 two_bytes R (CallRom a) put = omega arith
-two_bytes R (JumpRom a) put = absurd put
-two_bytes R (Call j) put = absurd put
-two_bytes R (Jump j) put = absurd put
-two_bytes R Return put = absurd put
-two_bytes R Stop put = absurd put
+two_bytes R _ put = absurd put
 
 one_more : (R : List ℕ) (op : OpKind) (ops : List OpKind) → IsPut R op → IsEnding R ops
     → 2 * length ops ≤ length (table_of ops) → 2 * length (op ∷ ops) ≤ length (table_of (op ∷ ops))
@@ -164,12 +129,8 @@ few_ops : (R : List ℕ) (ops : List OpKind) → IsEnding R ops → 2 * length o
 few_ops R [] ends = absurd ends
 few_ops R (Draw instr ∷ ops) ends = one_more R (Draw instr) ops ends.0 ends.1 (few_ops R ops ends.1)
 few_ops R (CallRom a ∷ ops) ends = one_more R (CallRom a) ops ends.0 ends.1 (few_ops R ops ends.1)
-few_ops R (JumpRom a ∷ ops) ends = absurd ends.0
-few_ops R (Call j ∷ ops) ends = absurd ends.0
-few_ops R (Jump j ∷ ops) ends = absurd ends.0
-few_ops R (Return ∷ ops) ends = absurd ends.0
 few_ops R (Stop ∷ []) ends = omega arith
-few_ops R (Stop ∷ op ∷ ops) ends = absurd ends.0
+few_ops R _ ends = absurd ends.0
 
 pub is_draft : (R : List ℕ) (ops : List OpKind) → IsEnding R ops → All IsOp ops → length (table_of ops) ≤ 1022
     → IsDraft ops

@@ -79,28 +79,16 @@ one a log = (a ∷ [], refl, inl (omega arith))
 
 reads : (mode : Mode) (cpu : Cpu) → Grows (reading mode cpu).log cpu.log
 reads Immediate cpu = none cpu.log
-reads ZeroPage cpu = one _ cpu.log
-reads ZeroPageX cpu = one _ cpu.log
-reads ZeroPageY cpu = one _ cpu.log
-reads Absolute cpu = one _ cpu.log
-reads AbsoluteX cpu = one _ cpu.log
-reads AbsoluteY cpu = one _ cpu.log
-reads IndexedIndirect cpu = one _ cpu.log
-reads IndirectIndexed cpu = one _ cpu.log
+reads _ cpu = one _ cpu.log
 
 sets : (r : Register) (byte : ℕ) (cpu : Cpu) (before : List Access) → Grows cpu.log before
     → Grows (setting r byte cpu).log before
 sets A byte cpu before g = g
-sets X byte cpu before g = g
-sets Y byte cpu before g = g
+sets _ byte cpu before g = g
 
 flags : (flag : Flag) (to : Bool) (cpu : Cpu) → Grows (flagging flag to cpu).log cpu.log
 flags Negative to cpu = none cpu.log
-flags Zero to cpu = none cpu.log
-flags Carry to cpu = none cpu.log
-flags Overflow to cpu = none cpu.log
-flags Decimal to cpu = none cpu.log
-flags Interrupt to cpu = none cpu.log
+flags _ to cpu = none cpu.log
 
 small : (b : ℕ) → b < 256 → b < 512
 small b less = omega arith
@@ -108,16 +96,11 @@ small b less = omega arith
 module _ (cpu : Cpu) (bytes : (b : ℕ) → cpu.mem b < 256) where
   -- a byte that is changed in the zero page
   changed : (mode : Mode) (by : ℕ) → is_single (Change mode by) ≡ true → Grows (does (Change mode by) cpu).log cpu.log
-  changed Immediate by is = absurd (cc)
   changed ZeroPage by is =
       let low = small (cpu.mem (cpu.pc + 1)) (bytes (cpu.pc + 1)) in (_ ∷ _ ∷ [], refl, inr (low, (low, tt)))
   changed ZeroPageX by is = (_ ∷ _ ∷ [], refl, inr (omega arith, (omega arith, tt)))
   changed ZeroPageY by is = (_ ∷ _ ∷ [], refl, inr (omega arith, (omega arith, tt)))
-  changed Absolute by is = absurd (cc)
-  changed AbsoluteX by is = absurd (cc)
-  changed AbsoluteY by is = absurd (cc)
-  changed IndexedIndirect by is = absurd (cc)
-  changed IndirectIndexed by is = absurd (cc)
+  changed _ by is = absurd (cc)
 
   grows : (instr : Instr) → is_single instr ≡ true → Grows (does instr cpu).log cpu.log
   grows (Load r mode) is = sets r _ (reading mode cpu) cpu.log (reads mode cpu)
@@ -142,22 +125,12 @@ module _ (cpu : Cpu) (bytes : (b : ℕ) → cpu.mem b < 256) where
   grows (ShiftAt shift AbsoluteY) is = absurd (cc)
   grows (ShiftAt shift IndexedIndirect) is = absurd (cc)
   grows (ShiftAt shift IndirectIndexed) is = absurd (cc)
-  grows (ShiftA shift) is = none cpu.log
   grows (Set flag to) is = flags flag to (next 1 cpu)
-  grows (Branch flag when) is = none cpu.log
-  grows Jump is = none cpu.log
   grows JumpAt is = absurd (cc)
   grows Call is = (_ ∷ _ ∷ [], refl, inr (omega arith, (omega arith, tt)))
-  grows Return is = none cpu.log
   grows PushA is = one _ cpu.log
   grows PushFlags is = one _ cpu.log
-  grows PullA is = none cpu.log
-  grows PullFlags is = none cpu.log
-  grows FromStack is = none cpu.log
-  grows ToStack is = none cpu.log
-  grows Resume is = none cpu.log
-  grows Pass is = none cpu.log
-  grows Unknown is = none cpu.log
+  grows _ is = none cpu.log
 
   -- by whatever name these accesses go
   pub few : (instr : Instr) → is_single instr ≡ true → (news : List Access) → (does instr cpu).log ≡ news ++ cpu.log → AreFew news

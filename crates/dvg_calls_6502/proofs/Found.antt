@@ -88,14 +88,7 @@ held call older olds enters follows session =
 pub busy_renamed : (routine : Routine) (G : List OpKind) (mem : ℕ → ℕ)
     → finds_busy (renamed routine G) mem ≡ finds_busy routine mem
 busy_renamed Reset G mem = refl
-busy_renamed Tick G mem = refl
-busy_renamed Ticks G mem = refl
-busy_renamed Run G mem = refl
-busy_renamed (Offer F) G mem = refl
-busy_renamed Redraw G mem = refl
-busy_renamed (Open F) G mem = refl
-busy_renamed (Puts part) G mem = refl
-busy_renamed Close G mem = refl
+busy_renamed _ G mem = refl
 
 pub over_renamed : (call : Call) (G : List OpKind) → is_over (call_with call G) ≡ is_over call
 over_renamed call G = ap (λ (t : Bool). at_return call.from.s (after call)
@@ -167,9 +160,6 @@ vector_op R scale dx dy z low some = (in_range (is_vector scale dx dy) refl some
 told_op : (R : List ℕ) (part : Part) (from : Cpu) (frame : ℕ × List ℕ) → Tells R (Puts part) from (Some frame)
     → IsRoomFor part from frame.0
     → (op : OpKind) × (put_by part from ≡ table_of (op ∷ [])) × IsPut R op × IsOp op × (frame.0 ≡ 0 → IsLabs op)
-told_op R Put from frame tells room = tells room
-told_op R Pair from frame tells room = tells room
-told_op R Labs from frame tells room = tells room
 told_op R Vector from frame tells room =
     let scale = from.a / 16 in
     let dx = number (from.mem 0x1D) (from.mem 0x1E) in
@@ -181,6 +171,7 @@ told_op R Vector from frame tells room =
       vector_op R scale dx dy z (omega arith) room.0,
       λ none. absurd (omega (arith, tells, none)),
     )
+told_op R _ from frame tells room = tells room
 
 -- a call that puts a part, over a frame that is being built
 module _ (R : List ℕ) (part : Part) (from : Cpu) (steps : ℕ) (others : ℕ → ℕ → ℕ) (older : Call) (olds : List Call)

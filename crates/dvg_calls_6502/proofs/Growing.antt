@@ -21,27 +21,15 @@ GoesOn now before = (pre : List Access) × (now ≡ pre ++ before)
 
 reads_on : (mode : Mode) (cpu : Cpu) → GoesOn (reading mode cpu).log cpu.log
 reads_on Immediate cpu = ([], refl)
-reads_on ZeroPage cpu = (_ ∷ [], refl)
-reads_on ZeroPageX cpu = (_ ∷ [], refl)
-reads_on Absolute cpu = (_ ∷ [], refl)
-reads_on ZeroPageY cpu = (_ ∷ [], refl)
-reads_on AbsoluteX cpu = (_ ∷ [], refl)
-reads_on AbsoluteY cpu = (_ ∷ [], refl)
-reads_on IndexedIndirect cpu = (_ ∷ [], refl)
-reads_on IndirectIndexed cpu = (_ ∷ [], refl)
+reads_on _ cpu = (_ ∷ [], refl)
 
 sets_on : (r : Register) (byte : ℕ) (cpu : Cpu) → (setting r byte cpu).log ≡ cpu.log
 sets_on A byte cpu = refl
-sets_on X byte cpu = refl
-sets_on Y byte cpu = refl
+sets_on _ byte cpu = refl
 
 flags_on : (flag : Flag) (to : Bool) (cpu : Cpu) → (flagging flag to cpu).log ≡ cpu.log
 flags_on Negative to cpu = refl
-flags_on Zero to cpu = refl
-flags_on Carry to cpu = refl
-flags_on Overflow to cpu = refl
-flags_on Decimal to cpu = refl
-flags_on Interrupt to cpu = refl
+flags_on _ to cpu = refl
 
 goes_as : (now also before : List Access) → now ≡ also → GoesOn also before → GoesOn now before
 goes_as now also before same on = (on.0, same ∙ on.1)
@@ -66,22 +54,12 @@ does_on (ShiftAt shift mode) cpu = shifts_on (reads_on mode cpu)
   where
     shifts_on : GoesOn (reading mode cpu).log cpu.log → GoesOn (does (ShiftAt shift mode) cpu).log cpu.log
     shifts_on on = (_ ∷ on.0, ap (λ l. Writes (address mode cpu) (shifted shift cpu.c (operand mode cpu)) ∷ l) on.1)
-does_on (ShiftA shift) cpu = ([], refl)
 does_on (Set flag to) cpu = ([], flags_on flag to (next 1 cpu))
-does_on (Branch flag when) cpu = ([], refl)
-does_on Jump cpu = ([], refl)
 does_on Call cpu = (_ ∷ _ ∷ [], refl)
-does_on Return cpu = ([], refl)
 does_on JumpAt cpu = (_ ∷ _ ∷ [], refl)
 does_on PushA cpu = (_ ∷ [], refl)
 does_on PushFlags cpu = (_ ∷ [], refl)
-does_on PullA cpu = ([], refl)
-does_on PullFlags cpu = ([], refl)
-does_on FromStack cpu = ([], refl)
-does_on ToStack cpu = ([], refl)
-does_on Resume cpu = ([], refl)
-does_on Pass cpu = ([], refl)
-does_on Unknown cpu = ([], refl)
+does_on _ cpu = ([], refl)
 
 turn_on : (s : ℕ) (cpu : Cpu) → GoesOn (turn s cpu).log cpu.log
 turn_on s cpu = by (at_return s cpu)

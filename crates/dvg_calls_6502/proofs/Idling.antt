@@ -104,12 +104,7 @@ stays_to calls.Redraw cpu enters is idle = subst (StaysTo 2 cpu.s) (phase_is cpu
     (redraw_idles cpu.a cpu.x cpu.y cpu.s cpu.n cpu.z cpu.c cpu.v cpu.d cpu.i (cpu.mem 0x11) (cpu.mem 0x12) (cpu.mem 0x13)
     (cpu.mem 0x14) (cpu.mem 0x15) (cpu.mem 0x16) (cpu.mem 0x17) (cpu.mem 0x18) (cpu.mem 0x19) (cpu.mem 0x1A) cpu.mem
     cpu.flags cpu.log)
-stays_to calls.Reset cpu enters is idle = absurd (cc)
-stays_to calls.Tick cpu enters is idle = absurd (cc)
-stays_to calls.Ticks cpu enters is idle = absurd (cc)
-stays_to calls.Run cpu enters is idle = absurd (cc)
-stays_to (calls.Puts part) cpu enters is idle = absurd (cc)
-stays_to calls.Close cpu enters is idle = absurd (cc)
+stays_to _ cpu enters is idle = absurd (cc)
 
 -- after k steps the phase is so, or CLC and RTS are left, or the run has returned
 module _ (p q : ℕ) (from : Cpu) (stays_so : StaysTo p q from) (k : ℕ) where

@@ -214,18 +214,13 @@ module _ (call : calls.Call) (more : List calls.Call) (session : calls.IsSession
     where
       busy_by : (routine : Routine) (m mem : ℕ → ℕ) → m 0x10 ≡ mem 0x10
           → calls.finds_busy routine m ≡ calls.finds_busy routine mem
-      busy_by calls.Reset m mem e = refl
-      busy_by calls.Tick m mem e = refl
-      busy_by calls.Ticks m mem e = refl
-      busy_by calls.Run m mem e = refl
       busy_by (calls.Offer F) m mem e = ap (λ p. not (nat_eq p 2)) e
       busy_by calls.Redraw m mem e = ap (λ p. not (nat_eq p 2)) e
       busy_by (calls.Open F) m mem e = ap (λ p. not (nat_eq p 2)) e
       busy_by (calls.Puts Put) m mem e = ap (λ p. not (nat_eq p 7)) e
       busy_by (calls.Puts Pair) m mem e = ap (λ p. not (nat_eq p 7)) e
-      busy_by (calls.Puts Labs) m mem e = refl
-      busy_by (calls.Puts Vector) m mem e = refl
       busy_by calls.Close m mem e = ap (λ p. not (nat_eq p 7)) e
+      busy_by _ m mem e = refl
 
   decided_now : calls.is_decided call ≡ true → IsDecided it (calls.answer call) × (it.s ≡ call.from.s)
   decided_now is = by (calls.is_refused call) refl

@@ -80,18 +80,8 @@ module _ (mem : ℕ → ℕ) where
       (mem 0x19) (mem 0x1A)
 
   in_list : (i : ℕ) → i < 11 → slice_index page_in i ≡ mem (0x10 + i)
-  in_list zero h = refl
-  in_list (suc zero) h = refl
-  in_list (suc (suc zero)) h = refl
-  in_list (suc (suc (suc zero))) h = refl
-  in_list (suc (suc (suc (suc zero)))) h = refl
-  in_list (suc (suc (suc (suc (suc zero))))) h = refl
-  in_list (suc (suc (suc (suc (suc (suc zero)))))) h = refl
-  in_list (suc (suc (suc (suc (suc (suc (suc zero))))))) h = refl
-  in_list (suc (suc (suc (suc (suc (suc (suc (suc zero)))))))) h = refl
-  in_list (suc (suc (suc (suc (suc (suc (suc (suc (suc zero))))))))) h = refl
-  in_list (suc (suc (suc (suc (suc (suc (suc (suc (suc (suc zero)))))))))) h = refl
   in_list (suc (suc (suc (suc (suc (suc (suc (suc (suc (suc (suc i))))))))))) h = absurd (omega arith)
+  in_list _ h = refl
 
   within_page : (b : ℕ) → in_page b ≡ true → (0x10 ≤ b) × (b < 0x1B)
   within_page b is = let two = both_true (nat_le 0x10 b) (nat_lt b 0x1B) is in

@@ -55,8 +55,6 @@ answers tables from c page mem begin stop new held no_log bytes small comes hold
 -- a driver that doesn't rest isn't idle
 pub not_idle : (mem : ℕ → ℕ) (begin stop : ℕ) (place : Place) (half : Half) (flipped : Bool)
     → HoldsPlace mem begin stop place half flipped → IsBusy place → nat_eq (mem 0x10) 2 ≡ false
-not_idle mem begin stop Start half flipped holds busy = ap (λ p. nat_eq p 2) holds.0
-not_idle mem begin stop Booting half flipped holds busy = ap (λ p. nat_eq p 2) holds.0
 not_idle mem begin stop (Resting first) half flipped holds busy = absurd busy
 not_idle mem begin stop (Writing writes) half flipped holds busy = by holds.1
   where
@@ -65,8 +63,7 @@ not_idle mem begin stop (Writing writes) half flipped holds busy = by holds.1
     by (inl feeds) = ap (λ p. nat_eq p 2) feeds.phase
     by (inr (inl is)) = ap (λ p. nat_eq p 2) is.0
     by (inr (inr is)) = ap (λ p. nat_eq p 2) is.0
-not_idle mem begin stop (Waiting first) half flipped holds busy = ap (λ p. nat_eq p 2) holds.0
-not_idle mem begin stop (Sending first) half flipped holds busy = ap (λ p. nat_eq p 2) holds.0
+not_idle mem begin stop _ half flipped holds busy = ap (λ p. nat_eq p 2) holds.0
 
 module _ (tables : ℕ → Bool) (a x y s : ℕ) (n z c v d i : Bool) (mem flags : ℕ → ℕ) (load : IsLoaded mem)
     (begin stop : ℕ) where

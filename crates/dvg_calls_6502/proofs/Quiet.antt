@@ -100,27 +100,15 @@ Wrote mem cpu = puts (written cpu.log) mem ≡ cpu.mem
 module _ (mem : ℕ → ℕ) where
   wrote_reading : (mode : Mode) (cpu : Cpu) → Wrote mem cpu → Wrote mem (reading mode cpu)
   wrote_reading Immediate cpu is = is
-  wrote_reading ZeroPage cpu is = is
-  wrote_reading ZeroPageX cpu is = is
-  wrote_reading Absolute cpu is = is
-  wrote_reading ZeroPageY cpu is = is
-  wrote_reading AbsoluteX cpu is = is
-  wrote_reading AbsoluteY cpu is = is
-  wrote_reading IndexedIndirect cpu is = is
-  wrote_reading IndirectIndexed cpu is = is
+  wrote_reading _ cpu is = is
 
   wrote_flagging : (flag : Flag) (to : Bool) (cpu : Cpu) → Wrote mem cpu → Wrote mem (flagging flag to cpu)
   wrote_flagging Negative to cpu is = is
-  wrote_flagging Zero to cpu is = is
-  wrote_flagging Carry to cpu is = is
-  wrote_flagging Overflow to cpu is = is
-  wrote_flagging Decimal to cpu is = is
-  wrote_flagging Interrupt to cpu is = is
+  wrote_flagging _ to cpu is = is
 
   wrote_setting : (r : Register) (byte : ℕ) (cpu : Cpu) → Wrote mem cpu → Wrote mem (setting r byte cpu)
   wrote_setting A byte cpu is = is
-  wrote_setting X byte cpu is = is
-  wrote_setting Y byte cpu is = is
+  wrote_setting _ byte cpu is = is
 
   wrote_does : (instr : Instr) (cpu : Cpu) → Wrote mem cpu → Wrote mem (does instr cpu)
   wrote_does (Load r mode) cpu is = wrote_setting r _ (reading mode cpu) (wrote_reading mode cpu is)
@@ -136,23 +124,12 @@ module _ (mem : ℕ → ℕ) where
   wrote_does (Change mode by) cpu is = ap (put _ _) (wrote_reading mode cpu is)
   wrote_does (Step r by) cpu is = wrote_setting r _ (next 1 cpu) is
   wrote_does (ShiftAt shift mode) cpu is = ap (put _ _) (wrote_reading mode cpu is)
-  wrote_does (ShiftA shift) cpu is = is
   wrote_does (Set flag to) cpu is = wrote_flagging flag to (next 1 cpu) is
-  wrote_does (Branch flag when) cpu is = is
-  wrote_does Jump cpu is = is
   wrote_does Jsr cpu is = ap (λ (m : ℕ → ℕ). put (stack_place (cpu.s + 255)) ((cpu.pc + 2) % 256)
       (put (stack_place cpu.s) ((cpu.pc + 2) / 256) m)) is
-  wrote_does Return cpu is = is
-  wrote_does JumpAt cpu is = is
   wrote_does PushA cpu is = ap (put (stack_place cpu.s) cpu.a) is
   wrote_does PushFlags cpu is = ap (put (stack_place cpu.s) (flags_byte true cpu)) is
-  wrote_does PullA cpu is = is
-  wrote_does PullFlags cpu is = is
-  wrote_does FromStack cpu is = is
-  wrote_does ToStack cpu is = is
-  wrote_does Resume cpu is = is
-  wrote_does Pass cpu is = is
-  wrote_does Unknown cpu is = is
+  wrote_does _ cpu is = is
 
   wrote_run : (s n : ℕ) (cpu : Cpu) → Wrote mem cpu → Wrote mem (run s n cpu)
   wrote_run s zero cpu is = is

@@ -234,14 +234,10 @@ one_shown (access ∷ log) (Did action ∷ one) (Did also ∷ other) a b =
 one_added : (routine : Routine) (call : Call) (one other : List Item) → Adds routine call one
     → Adds routine call other → one ≡ other
 one_added Calls.Reset call one other a b = a.1 ∙ sym b.1
-one_added Calls.Tick call one other a b = one_shown (seen (after call).log) one other a b
-one_added Calls.Ticks call one other a b = one_shown (seen (after call).log) one other a b
-one_added Calls.Run call one other a b = one_shown (seen (after call).log) one other a b
 one_added (Calls.Offer F) call one other a b = a.1 ∙ sym b.1
 one_added (Calls.Open F) call one other a b = a.1 ∙ sym b.1
-one_added (Calls.Puts part) call one other a b = one_shown (seen (after call).log) one other a b
-one_added Calls.Close call one other a b = one_shown (seen (after call).log) one other a b
 one_added Calls.Redraw call one other a b = a.1 ∙ sym b.1
+one_added _ call one other a b = one_shown (seen (after call).log) one other a b
 
 one_since : (r : Routine) (one other : List Item) (P : List Item → Type 0) → (P one → P other → one ≡ other)
     → Calls.SinceReset r one (P one) → Calls.SinceReset r other (P other) → one ≡ other

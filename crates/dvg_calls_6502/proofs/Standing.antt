@@ -64,8 +64,6 @@ module _ (mem now : ℕ → ℕ) (begin stop : ℕ) (own : (b : ℕ) → is_own 
   place_on : (place : Place) (half : Half) (flipped : Bool) → HoldsPlace mem begin stop place half flipped
       → HoldsPlace now begin stop place half flipped
   place_on Start half flipped h = (own 0x10 refl ∙ h.0, h.1)
-  place_on Booting half flipped h = (own 0x10 refl ∙ h.0, own 0x11 refl ∙ h.1, h.2)
-  place_on (Resting first) half flipped h = (own 0x10 refl ∙ h.0, own 0x11 refl ∙ h.1, h.2)
   place_on (Writing writes) half flipped h = (own 0x11 refl ∙ h.0, by h.1)
     where
       by : IsFeeding mem begin stop half flipped writes ⊎ ((mem 0x10 ≡ 3) × (writes ≡ word_zero (other half) true))
@@ -75,8 +73,7 @@ module _ (mem now : ℕ → ℕ) (begin stop : ℕ) (own : (b : ℕ) → is_own 
       by (inl f) = inl (feeds_on half flipped writes f)
       by (inr (inl is)) = inr (inl (own 0x10 refl ∙ is.0, is.1))
       by (inr (inr is)) = inr (inr (own 0x10 refl ∙ is.0, is.1))
-  place_on (Waiting first) half flipped h = (own 0x10 refl ∙ h.0, own 0x11 refl ∙ h.1, h.2)
-  place_on (Sending first) half flipped h = (own 0x10 refl ∙ h.0, own 0x11 refl ∙ h.1, h.2)
+  place_on _ half flipped h = (own 0x10 refl ∙ h.0, own 0x11 refl ∙ h.1, h.2)
 
   pub holds_on : (stage : Stage) → Holds mem begin stop stage → Holds now begin stop stage
   holds_on stage h = record {
@@ -117,11 +114,9 @@ place_of_rest (item ∷ more) life place is = let one = place_before item (more 
 pub shown_rest : (items : List Item) (pre log : List Access) → AreShown items (pre ++ log) → (more : List Item)
     × (rest : List Item) × (items ≡ more ++ rest) × AreShown rest log
 shown_rest items [] log shown = ([], items, refl, shown)
-shown_rest [] (access ∷ pre) log shown = absurd shown
-shown_rest (Offered half F ∷ items) (access ∷ pre) log shown = absurd shown
-shown_rest (Asked ∷ items) (access ∷ pre) log shown = absurd shown
 shown_rest (Did action ∷ items) (access ∷ pre) log shown =
     let on = shown_rest items pre log shown.1 in (Did action ∷ on.0, on.1, ap (λ l. Did action ∷ l) on.2, on.3)
+shown_rest _ (access ∷ pre) log shown = absurd shown
 
 -- an action's access, as items
 abbrev pub items_of : Action → List Item
@@ -142,12 +137,8 @@ shown_items Sent accesses is = subst (λ l. AreShown (Did Sent ∷ []) l) (sym i
 
 -- an idle tick leaves a life as it was
 rests_as : (before place : Place) → next_place before (Did Idle) ≡ Some place → before ≡ place
-rests_as Start place is = absurd (cc)
-rests_as Booting place is = absurd (cc)
 rests_as (Resting first) place is = some_same is
-rests_as (Writing writes) place is = absurd (cc)
-rests_as (Waiting first) place is = absurd (cc)
-rests_as (Sending first) place is = absurd (cc)
+rests_as _ place is = absurd (cc)
 
 without_idle : (new : Stage) (peeked : ℕ) (life : List Item) → StandsAfter new peeked (Did Idle ∷ life)
     → StandsAfter new peeked life
@@ -158,10 +149,7 @@ without_idle new peeked life stands =
 pub stands_items : (action : Action) (new : Stage) (peeked : ℕ) (life : List Item)
     → StandsAfter new peeked (Did action ∷ life) → StandsAfter new peeked (items_of action ++ life)
 stands_items Idle new peeked life stands = without_idle new peeked life stands
-stands_items Peek new peeked life stands = stands
-stands_items (Wrote a byte) new peeked life stands = stands
-stands_items (Read halted) new peeked life stands = stands
-stands_items Sent new peeked life stands = stands
+stands_items _ new peeked life stands = stands
 
 -- byte 001 after an action
 same_place : (a : ℕ) → nat_eq 0x4001 (0x4000 + a) ≡ nat_eq a 1
@@ -174,12 +162,10 @@ same_place a = by (nat_eq a 1) refl
 
 byte1_after : (action : Action) (mem : ℕ → ℕ) (peeked : ℕ) (life : List Item) → mem 0x4001 ≡ byte1_of peeked life
     → acted action mem 0x4001 ≡ byte1_of (peeked_after action (mem 0x4001) peeked) (items_of action ++ life)
-byte1_after Idle mem peeked life is = is
 byte1_after Peek mem peeked life is = refl
 byte1_after (Wrote a byte) mem peeked life is =
     ap (λ (t : Bool). if t then byte else mem 0x4001) (same_place a) ∙ ap (λ m. if nat_eq a 1 then byte else m) is
-byte1_after (Read halted) mem peeked life is = is
-byte1_after Sent mem peeked life is = is
+byte1_after _ mem peeked life is = is
 
 -- what stands after a tick
 pub stood_tick : (q : ℕ) (cpu : Cpu) (begin stop peeked : ℕ) (life : List Item)

@@ -152,10 +152,6 @@ op_fed half F (Draw (Svec scale dx dy z)) rest op fit =
     let high : w < 65536 = omega (arith, a, b, c, d, e, f) in
     let low : 0xF0 ≤ w / 256 = omega arith in
     alone half w rest high (le_true 0xB0 (w / 256) (omega arith)) (not_ours_E (w / 256) (omega arith))
-op_fed half F (Draw Halt) rest op fit = absurd (let e = op.1 in cc)
-op_fed half F (Draw (Jsrl a)) rest op fit = absurd (let e = op.1 in cc)
-op_fed half F (Draw Rtsl) rest op fit = absurd (let e = op.1 in cc)
-op_fed half F (Draw (Jmpl a)) rest op fit = absurd (let e = op.1 in cc)
 op_fed half F (CallRom a) rest op fit =
     alone half (0xC000 + a) rest (omega arith) (le_true 0xB0 ((0xC000 + a) / 256) (omega arith))
     (not_ours_C ((0xC000 + a) / 256) (omega arith) (omega arith))
@@ -168,6 +164,7 @@ op_fed H0 F (Jump j) rest op fit = jump_word H0 (at H0 F j) (at H0 F j) rest fit
 op_fed H1 F (Jump j) rest op fit = jump_word H1 (at H0 F j) (at H1 F j) rest fit (omega arith)
 op_fed half F Return rest op fit = alone half 0xD000 rest (omega arith) refl refl
 op_fed half F Stop rest op fit = alone half 0xB000 rest (omega arith) refl refl
+op_fed half F _ rest op fit = absurd (let e = op.1 in cc)
 
 ops_fed : (half : Half) (F ops : List OpKind) → AreExpressible F ops
     → feed half (bytes (laid_ops H0 F ops)) ≡ bytes (laid_ops half F ops)

@@ -42,8 +42,6 @@ on_stack p low high =
 
 -- what an action writes is in the vector RAM
 acted_out : (action : Action) (mem : ℕ → ℕ) (b : ℕ) → IsInRam action → is_hardware b ≡ false → acted action mem b ≡ mem b
-acted_out Idle mem b in_ram out = refl
-acted_out Peek mem b in_ram out = refl
 acted_out (Wrote a v) mem b in_ram out = ap (λ (t : Bool). if t then v else mem b)
     (ne_eqb b (0x4000 + a) (λ same. absurd (let is = subst (λ p. is_hardware p ≡ true) (sym same) there in cc)))
   where
@@ -52,8 +50,7 @@ acted_out (Wrote a v) mem b in_ram out = ap (λ (t : Bool). if t then v else mem
         let low : nat_le 0x4000 (0x4000 + a) ≡ true = le-leb 0x4000 (0x4000 + a) (omega arith) in
         let high : nat_lt (0x4000 + a) 0x4800 ≡ true = le-leb (suc (0x4000 + a)) 0x4800 (omega (arith, in_ram)) in
         rw (low, high) refl
-acted_out (Read halted) mem b in_ram out = refl
-acted_out Sent mem b in_ram out = refl
+acted_out _ mem b in_ram out = refl
 
 -- the two places that call dvg_tick: in dvg_run, and in dvg_ticks
 abbrev pub site_of : Bool → ℕ

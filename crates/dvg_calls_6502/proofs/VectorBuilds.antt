@@ -28,13 +28,8 @@ abbrev work_in : (ℕ → ℕ) → List ℕ
 work_in mem = mem 0x1B ∷ mem 0x1C ∷ mem 0x1D ∷ mem 0x1E ∷ mem 0x1F ∷ mem 0x20 ∷ []
 
 in_list : (mem : ℕ → ℕ) (i : ℕ) → i < 6 → slice_index (work_in mem) i ≡ mem (0x1B + i)
-in_list mem zero h = refl
-in_list mem (suc zero) h = refl
-in_list mem (suc (suc zero)) h = refl
-in_list mem (suc (suc (suc zero))) h = refl
-in_list mem (suc (suc (suc (suc zero)))) h = refl
-in_list mem (suc (suc (suc (suc (suc zero))))) h = refl
 in_list mem (suc (suc (suc (suc (suc (suc i)))))) h = absurd (omega arith)
+in_list mem _ h = refl
 
 known_work : (mem : ℕ → ℕ) → worked (work_in mem) mem ≡ mem
 known_work mem = fun_ext (λ b. at_byte b (is_work b) refl)

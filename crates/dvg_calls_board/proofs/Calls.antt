@@ -103,9 +103,6 @@ not_over r from others opcode is no_return no_clear =
 
 begin_adds : (r : Routine) (from : Cpu) (others : ℕ → ℕ → ℕ) → Enters from (calls.entry r) → Adds r (begun r from others) []
 begin_adds calls.Reset from others enters = (ap seen enters.log, refl)
-begin_adds calls.Tick from others enters = subst (λ l. AreShown [] (seen l)) (sym enters.log) tt
-begin_adds calls.Ticks from others enters = subst (λ l. AreShown [] (seen l)) (sym enters.log) tt
-begin_adds calls.Run from others enters = subst (λ l. AreShown [] (seen l)) (sym enters.log) tt
 begin_adds (calls.Offer F) from others enters = (
   ap seen enters.log,
   sym (ap (λ (t : Bool). if t && not (calls.answer (begun (calls.Offer F) from others)) then Script.Offered (other (half_of_high (from.mem 0x4001))) F ∷ [] else [])
@@ -121,8 +118,7 @@ begin_adds (calls.Open F) from others enters = (
   sym (ap (λ (t : Bool). if t && not (calls.answer (begun (calls.Open F) from others)) then Script.Offered (other (half_of_high (from.mem 0x4001))) F ∷ [] else [])
       (not_over (calls.Open F) from others 0xA4 (ap from.mem enters.entry ∙ enters.loaded.code 0x124 (omega arith)) refl refl)),
 )
-begin_adds (calls.Puts part) from others enters = subst (λ l. AreShown [] (seen l)) (sym enters.log) tt
-begin_adds calls.Close from others enters = subst (λ l. AreShown [] (seen l)) (sym enters.log) tt
+begin_adds _ from others enters = subst (λ l. AreShown [] (seen l)) (sym enters.log) tt
 
 module _ (R image : List ℕ) (held : ℕ → ℕ) (log : Log) (older : List Bus) (from : Cpu) (others : ℕ → ℕ → ℕ) where
   -- what the older calls made, and left in the RAM
@@ -245,21 +241,15 @@ module _ (before now : Call) (access : Access) (more : accesses_of now ≡ acces
       by : (new : List Item) → AreShown new (access ∷ accesses_of before)
           → (action : Action) × Shows action (access ∷ [])
           × ((other : Action) → Shows other (access ∷ []) → AreShown (Did other ∷ items) (accesses_of now))
-      by [] it = absurd it
       by (Did action ∷ new) it = (action, it.0, further)
-      by (Script.Offered half F ∷ new) it = absurd it
-      by (Script.Asked ∷ new) it = absurd it
+      by _ it = absurd it
 
   no_access : {X : Type 0} → accesses_of now ≡ [] → X
   no_access e = absurd (let both = sym more ∙ e in cc)
 
   pub next_of : (r : Routine) (items new : List Item) → Adds r before items → Adds r now new → Next r items
   next_of calls.Reset items new old it = no_access it.0
-  next_of calls.Tick items new old it = shown_next items new old it
-  next_of calls.Ticks items new old it = shown_next items new old it
-  next_of calls.Run items new old it = shown_next items new old it
   next_of (calls.Offer F) items new old it = no_access it.0
   next_of calls.Redraw items new old it = no_access it.0
   next_of (calls.Open F) items new old it = no_access it.0
-  next_of (calls.Puts part) items new old it = shown_next items new old it
-  next_of calls.Close items new old it = shown_next items new old it
+  next_of _ items new old it = shown_next items new old it

@@ -37,14 +37,7 @@ own_draft routine = []
 
 own_named : (r : Routine) → renamed r (own_draft r) ≡ r
 own_named calls.Reset = refl
-own_named calls.Tick = refl
-own_named calls.Ticks = refl
-own_named calls.Run = refl
-own_named (calls.Offer F) = refl
-own_named calls.Redraw = refl
-own_named (calls.Open F) = refl
-own_named (calls.Puts part) = refl
-own_named calls.Close = refl
+own_named _ = refl
 
 self_named : (list : List Call) → Named list list
 self_named [] = tt
@@ -76,16 +69,9 @@ taken_named call G = ap (λ (t : Bool).
 
 bounds_by : (r : Routine) (call : Call) (G : List OpKind) (older : ℕ × ℕ)
     → calls.taken_bounds (renamed r G) (call_with call G) older ≡ calls.taken_bounds r call older
-bounds_by calls.Reset call G older = refl
-bounds_by calls.Tick call G older = refl
-bounds_by calls.Ticks call G older = refl
-bounds_by calls.Run call G older = refl
 bounds_by (calls.Offer F) call G older = let t = call.from.a + 256 * call.from.x + 2 in
     ap (λ (u : Bool). if u then (t, t + length (table_of F)) else older) (taken_named call G)
-bounds_by calls.Redraw call G older = refl
-bounds_by (calls.Open F) call G older = refl
-bounds_by (calls.Puts part) call G older = refl
-bounds_by calls.Close call G older = refl
+bounds_by _ call G older = refl
 
 bounds_named : (list tos : List Call) → Named list tos → bounds tos ≡ bounds list
 bounds_named [] [] is = refl
@@ -235,27 +221,14 @@ fewer n call list session = (
 
 check_named : (R : List ℕ) (r : Routine) (G : List OpKind) → IsCheckedTable R r → BuildsOnly R (renamed r G)
     → IsChecked R (renamed r G)
-check_named R calls.Reset G checked builds = tt
-check_named R calls.Tick G checked builds = tt
-check_named R calls.Ticks G checked builds = tt
-check_named R calls.Run G checked builds = tt
 check_named R (calls.Offer F) G checked builds = checked
-check_named R calls.Redraw G checked builds = tt
 check_named R (calls.Open F) G checked builds = builds
-check_named R (calls.Puts part) G checked builds = tt
-check_named R calls.Close G checked builds = tt
+check_named R _ G checked builds = tt
 
 share_named : (r : Routine) (G : List OpKind) (mem : ℕ → ℕ) (board : Board) → SharesRam r mem board
     → SharesRam (renamed r G) mem board
 share_named calls.Reset G mem board shares = shares
-share_named calls.Tick G mem board shares = tt
-share_named calls.Ticks G mem board shares = tt
-share_named calls.Run G mem board shares = tt
-share_named (calls.Offer F) G mem board shares = tt
-share_named calls.Redraw G mem board shares = tt
-share_named (calls.Open F) G mem board shares = tt
-share_named (calls.Puts part) G mem board shares = tt
-share_named calls.Close G mem board shares = tt
+share_named _ G mem board shares = tt
 
 -- before a clock that may end the calls
 before_clock : (R : List ℕ) (t w : Bool) (list tos : List Call) → Found R list

@@ -79,8 +79,7 @@ module _ (b old : ℕ) (high : 0x200 ≤ b) (other : nat_eq b flag_place ≡ fal
 
   setting_keeps : (r : Register) (byte : ℕ) (cpu : Cpu) → Has cpu → Has (setting r byte cpu)
   setting_keeps A byte cpu h = h
-  setting_keeps X byte cpu h = h
-  setting_keeps Y byte cpu h = h
+  setting_keeps _ byte cpu h = h
 
   reading_keeps : (mode : Mode) (cpu : Cpu) → Has cpu → Has (reading mode cpu)
   reading_keeps Immediate cpu h = h
@@ -98,11 +97,7 @@ module _ (b old : ℕ) (high : 0x200 ≤ b) (other : nat_eq b flag_place ≡ fal
 
   flagging_keeps : (flag : Flag) (to : Bool) (cpu : Cpu) → Has cpu → Has (flagging flag to cpu)
   flagging_keeps Negative to cpu h = h
-  flagging_keeps Zero to cpu h = h
-  flagging_keeps Carry to cpu h = h
-  flagging_keeps Overflow to cpu h = h
-  flagging_keeps Decimal to cpu h = h
-  flagging_keeps Interrupt to cpu h = h
+  flagging_keeps _ to cpu h = h
 
   does_keeps : (instr : Instr) (cpu : Cpu) → Has cpu → Has (does instr cpu)
   does_keeps (Load r mode) cpu h = setting_keeps r (operand mode cpu) (reading mode cpu) (reading_keeps mode cpu h)
@@ -118,24 +113,14 @@ module _ (b old : ℕ) (high : 0x200 ≤ b) (other : nat_eq b flag_place ≡ fal
   does_keeps (Change mode by) cpu h = changing_keeps mode ((operand mode cpu + by) % 256) cpu h
   does_keeps (Step r by) cpu h = setting_keeps r ((of_register r cpu + by) % 256) (next 1 cpu) h
   does_keeps (ShiftAt shift mode) cpu h = changing_keeps mode (shifted shift cpu.c (operand mode cpu)) cpu h
-  does_keeps (ShiftA shift) cpu h = h
   does_keeps (Set flag to) cpu h = flagging_keeps flag to (next 1 cpu) h
-  does_keeps (Branch flag when) cpu h = h
-  does_keeps Jump cpu h = h
   does_keeps Call cpu h = write_keeps (stack_place (cpu.s + 255)) ((cpu.pc + 2) % 256)
       (writing (stack_place cpu.s) ((cpu.pc + 2) / 256) cpu)
       (write_keeps (stack_place cpu.s) ((cpu.pc + 2) / 256) cpu h)
-  does_keeps Return cpu h = h
   does_keeps JumpAt cpu h = read_keeps (beside cpu) (reads (address Absolute cpu) cpu) (read_keeps (address Absolute cpu) cpu h)
   does_keeps PushA cpu h = write_keeps (stack_place cpu.s) cpu.a cpu h
   does_keeps PushFlags cpu h = write_keeps (stack_place cpu.s) (flags_byte true cpu) cpu h
-  does_keeps PullA cpu h = h
-  does_keeps PullFlags cpu h = h
-  does_keeps FromStack cpu h = h
-  does_keeps ToStack cpu h = h
-  does_keeps Resume cpu h = h
-  does_keeps Pass cpu h = h
-  does_keeps Unknown cpu h = h
+  does_keeps _ cpu h = h
 
   turn_keeps : (s : ℕ) (cpu : Cpu) → Has cpu → Has (turn s cpu)
   turn_keeps s cpu h = by (at_return s cpu)

@@ -96,9 +96,7 @@ number (InRom a) = 2
 
 low : {p : Place} {d : ℕ} → At p d → number p ≤ 2
 low at0 = lit≤ tt
-low at1 = lit≤ tt
-low at2 = lit≤ tt
-low shape = lit≤ tt
+low _ = lit≤ tt
 
 -- each step goes on to a later operation, or to the shape
 lead : {p q : Place} {d e : ℕ} → At p d → Leads F returns p d q e → At q e × (number p < number q)
@@ -161,11 +159,10 @@ fine at2 = fine2
 fine shape = fine_shape
 
 names_none : (i j : ℕ) (op : OpKind) → slice_get F i ≡ Some op → ¬ Names (op_act op) (InFrame j)
-names_none zero j op e n = subst (λ x. Names (op_act x) (InFrame j)) (sym (some_same e)) n
 names_none (suc zero) j op e n =
     let to : InRom 0x800 ≡ InFrame j = subst (λ x. Names (op_act x) (InFrame j)) (sym (some_same e)) n in absurd (cc)
-names_none (suc (suc zero)) j op e n = subst (λ x. Names (op_act x) (InFrame j)) (sym (some_same e)) n
 names_none (suc (suc (suc i))) j op e n = absurd (cc)
+names_none _ j op e n = subst (λ x. Names (op_act x) (InFrame j)) (sym (some_same e)) n
 
 misses_none : (i : ℕ) → ¬ Misses F i
 misses_none i (misses {j = j} {op = op} e n far) = names_none i j op e n

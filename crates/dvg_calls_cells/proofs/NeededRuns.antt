@@ -16,11 +16,11 @@ use Rattle.dvg_calls_cells.proofs.Following.{list_given, twos}
 -- STA 3000, at power-up
 pub needs_no_strobe : NeedsNoStrobe
 needs_no_strobe = (
-  example.older1,
-  example.cells1,
+  example.at1.older,
+  example.at1.cells,
   twos (0x8D ∷ 0x00 ∷ 0x30 ∷ 0x00 ∷ []),
   example.on1,
-  list_given (0x8D ∷ 0x00 ∷ 0x30 ∷ 0x00 ∷ []) (at_rest held example.older1 example.cells1) refl,
+  list_given (0x8D ∷ 0x00 ∷ 0x30 ∷ 0x00 ∷ []) (at_rest held example.at1.older example.at1.cells) refl,
   (refl, tt),
   sent_by_none zeros zeros held _ _ _ refl refl refl refl,
 )
@@ -33,11 +33,11 @@ module _ (shared : OfEachMachine (λ R image held list log clocks. HaveRam list 
     [],
     refl,
     (
-      example.older8,
-      example.cells8,
+      example.at8.older,
+      example.at8.cells,
       twos (0x8D ∷ 0x00 ∷ 0x40 ∷ 0x00 ∷ []),
       example.on8,
-      list_given (0x8D ∷ 0x00 ∷ 0x40 ∷ 0x00 ∷ []) (at_rest held example.older8 example.cells8) refl,
+      list_given (0x8D ∷ 0x00 ∷ 0x40 ∷ 0x00 ∷ []) (at_rest held example.at8.older example.at8.cells) refl,
       (refl, tt),
       λ keeps.
           let differs : 0 ≡ 3 = has_ram shared zeros zeros held (made.reset 4) [] _ keeps 0 (lit< tt) in
@@ -50,8 +50,8 @@ module _ (shared : OfEachMachine (λ R image held list log clocks. HaveRam list 
   needs_answers = (
     made.tick 3,
     made.reset 4 ∷ [],
-    example.older11,
-    example.cells11,
+    example.at11.older,
+    example.at11.cells,
     twos (0x8D ∷ 0x00 ∷ 0x40 ∷ 0x00 ∷ []),
     example.on11,
     made.tick_session 4,
@@ -64,7 +64,7 @@ module _ (shared : OfEachMachine (λ R image held list log clocks. HaveRam list 
       single = refl;
       count = refl;
       answered = tt;
-      given = list_given (0x8D ∷ 0x00 ∷ 0x40 ∷ 0x00 ∷ []) (at_rest held example.older11 example.cells11) refl;
+      given = list_given (0x8D ∷ 0x00 ∷ 0x40 ∷ 0x00 ∷ []) (at_rest held example.at11.older example.at11.cells) refl;
     },
     λ keeps.
         let differs : 0 ≡ 3 = has_ram shared zeros zeros held (made.tick 4) (made.reset 4 ∷ []) _ keeps 0 (lit< tt) in
@@ -75,17 +75,17 @@ module _ (shared : OfEachMachine (λ R image held list log clocks. HaveRam list 
   abbrev strayed : List Turn
   strayed = twos (0x4C ∷ 0x88 ∷ 0x68 ∷ 0xA9 ∷ 0x05 ∷ 0x8D ∷ 0x00 ∷ [])
 
-  strayed_on : IsPlayed zeros zeros held (made.reset 0 ∷ []) (older_after held example.older3 example.cells3 strayed)
-      (cells_after held example.older3 example.cells3 strayed)
+  strayed_on : IsPlayed zeros zeros held (made.reset 0 ∷ []) (older_after held example.at3.older example.at3.cells strayed)
+      (cells_after held example.at3.older example.at3.cells strayed)
   strayed_on = alone strayed example.reset_on (list_given (0x4C ∷ 0x88 ∷ 0x68 ∷ 0xA9 ∷ 0x05 ∷ 0x8D ∷ 0x00 ∷ [])
-      (at_rest held example.older3 example.cells3) refl) tt
+      (at_rest held example.at3.older example.at3.cells) refl) tt
 
   pub needs_rests : NeedsRests
   needs_rests = (
     made.reset 0,
     [],
-    older_after held example.older3 example.cells3 strayed,
-    cells_after held example.older3 example.cells3 strayed,
+    older_after held example.at3.older example.at3.cells strayed,
+    cells_after held example.at3.older example.at3.cells strayed,
     twos (0x40 ∷ 0x00 ∷ []),
     strayed_on,
     made.reset_session 1,
@@ -98,8 +98,8 @@ module _ (shared : OfEachMachine (λ R image held list log clocks. HaveRam list 
       single = refl;
       count = refl;
       answered = (refl, (tt, tt));
-      given = list_given (0x40 ∷ 0x00 ∷ []) (at_rest held (older_after held example.older3 example.cells3 strayed)
-          (cells_after held example.older3 example.cells3 strayed)) refl;
+      given = list_given (0x40 ∷ 0x00 ∷ []) (at_rest held (older_after held example.at3.older example.at3.cells strayed)
+          (cells_after held example.at3.older example.at3.cells strayed)) refl;
     },
     λ keeps.
         let differs : 0 ≡ 5 = has_ram shared zeros zeros held (made.reset 1) [] _ keeps 0 (lit< tt) in
@@ -113,11 +113,11 @@ module _ (shared : OfEachMachine (λ R image held list log clocks. HaveRam list 
   abbrev booted : List Turn
   booted = twos (0x00 ∷ 0x68 ∷ [])
 
-  booted_on : IsPlayed zeros zeros held [] (older_after held [] example.cells0 booted) (cells_after held [] example.cells0 booted)
-  booted_on = alone booted example.on0 (list_given (0x00 ∷ 0x68 ∷ []) (at_rest held [] example.cells0) refl) tt
+  booted_on : IsPlayed zeros zeros held [] (older_after held [] example.at0.cells booted) (cells_after held [] example.at0.cells booted)
+  booted_on = alone booted example.on0 (list_given (0x00 ∷ 0x68 ∷ []) (at_rest held [] example.at0.cells) refl) tt
 
-  reset_on : IsPlayed zeros zeros held (other.reset 0 ∷ []) (older_after held [] example.cells0 booted)
-      (cells_after held [] example.cells0 booted)
+  reset_on : IsPlayed zeros zeros held (other.reset 0 ∷ []) (older_after held [] example.at0.cells booted)
+      (cells_after held [] example.at0.cells booted)
   reset_on = begins_call calls.Reset other.reset_from (made.others other.reset_from) booted_on
       (record { holds = record { a = refl; x = refl; y = refl; s = refl; pc = refl; n = refl; z = refl; c = refl; v = refl; d = refl; i = refl }; fetches = refl })
       (other.reset_session 0) tt other.shares
@@ -126,8 +126,8 @@ module _ (shared : OfEachMachine (λ R image held list log clocks. HaveRam list 
   needs_count = (
     other.reset 0,
     [],
-    older_after held [] example.cells0 booted,
-    cells_after held [] example.cells0 booted,
+    older_after held [] example.at0.cells booted,
+    cells_after held [] example.at0.cells booted,
     twos boots,
     reset_on,
     other.reset_session 1,
@@ -140,8 +140,8 @@ module _ (shared : OfEachMachine (λ R image held list log clocks. HaveRam list 
       single = refl;
       count = tt;
       answered = (refl, (refl, (refl, (refl, (tt, (refl, (refl, (refl, (refl, (tt, (refl, (refl, (refl, (refl, (refl, (refl, (tt, tt)))))))))))))))));
-      given = list_given boots (at_rest held (older_after held [] example.cells0 booted)
-          (cells_after held [] example.cells0 booted)) refl;
+      given = list_given boots (at_rest held (older_after held [] example.at0.cells booted)
+          (cells_after held [] example.at0.cells booted)) refl;
     },
     λ keeps.
         let differs : 0 ≡ 3 = has_ram shared zeros zeros held (other.reset 1) [] _ keeps 0 (lit< tt) in

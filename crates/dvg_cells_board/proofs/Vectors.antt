@@ -2,8 +2,13 @@
 use Rattle.std.proofs.Common.{ℕ, ◌+◌, ◌*◌, ◌%◌, Bool, true, List, [], ◌∷◌}
 use Rattle.std.specs.Prelude.{nat_eq, ◌&&◌, slice_index}
 use Rattle.dvg_cells_core.specs.Core.{halted}
+use Rattle.dvg_cells_core.proofs.Vectors.{cut}
 use Rattle.dvg_cells_board.specs.Board.{Board, Bus, powered, clock, q, takes}
 use Rattle.dvg_cells_board.specs.Board as pin
+
+-- the bits of each pin, of those that are driven and of the others
+abbrev widths : List ℕ
+widths = 1 ∷ 1 ∷ 1 ∷ 1 ∷ 16 ∷ 8 ∷ 1 ∷ 8 ∷ 8 ∷ 1 ∷ 12 ∷ 1 ∷ 1 ∷ 1 ∷ 2 ∷ 1 ∷ 21 ∷ 21 ∷ 21 ∷ 21 ∷ 4 ∷ 1 ∷ 1 ∷ 1 ∷ 1 ∷ 1 ∷ 4 ∷ 1 ∷ 1 ∷ 10 ∷ 10 ∷ 4 ∷ []
 
 -- the pins that are driven in a clock; what is undefined may be anything
 abbrev bus : List ℕ → Bus
@@ -40,10 +45,10 @@ tells board t =
     && (nat_eq (pin.dx board (bus t)) (slice_index t 29) && (nat_eq (pin.dy board (bus t)) (slice_index t 30)
     && nat_eq (pin.vec_z board (bus t)) (slice_index t 31))))))))))
 
-abbrev pass_from : Board → List (List ℕ) → Bool
+abbrev pass_from : Board → List ℕ → Bool
 pass_from board [] = true
-pass_from board (t ∷ rest) = let now = clock board (bus t) in same now t && (tells now t && pass_from now rest)
+pass_from board (number ∷ rest) = let t = cut widths number in let now = clock board (bus t) in same now t && (tells now t && pass_from now rest)
 
 -- each clock of a list since power-up passes
-abbrev pub all_pass : List (List ℕ) → Bool
+abbrev pub all_pass : List ℕ → Bool
 all_pass clocks = pass_from (powered (λ a. (37 * a + 11) % 256)) clocks

@@ -4,7 +4,7 @@ pub mod Fitting
 pub mod Clocks
 pub mod Whole
 mod Example
-mod Vectors
+pub mod Vectors
 mod ClockVectors
 mod Histories
 pub mod Scaled

@@ -14,7 +14,7 @@ use Rattle.dvg_gen.specs.declared.counters.Counters.{Counters}
 use Rattle.dvg_gen.specs.declared.moving.Move.{Move}
 use Rattle.dvg_gen.specs.declared.stroke.Stroke.{Stroke}
 use Rattle.dvg_gen.specs.Bytes.{Met, Waits, Whole, met}
-use Rattle.dvg_gen.specs.Counting.{whole, stepped, followed}
+use Rattle.dvg_gen.specs.Counting.{stepped, followed}
 use Rattle.dvg_gen.specs.Drawing.{unit, moved}
 use Rattle.dvg_gen.specs.Moving.{made, begins_at, going, AddsMoves}
 use Rattle.dvg_gen.specs.Position.{IsBeam}

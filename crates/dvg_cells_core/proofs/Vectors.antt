@@ -1,8 +1,18 @@
 -- Clocks of another reader of the Verilog, Icarus, in numbers: the cells give the same pins. ClockVectors.antt has them.
-use Rattle.std.proofs.Common.{ℕ, Bool, true, List, [], ◌∷◌}
+use Rattle.std.proofs.Common.{ℕ, ◌/◌, ◌%◌, ◌^◌, Bool, true, List, [], ◌∷◌}
 use Rattle.std.specs.Prelude.{nat_eq, ◌&&◌, slice_index}
+use Rattle.std.specs.List.{sum}
 use Rattle.dvg_cells_core.specs.Core.{Core, Pins, zeros, clock, halted}
 use Rattle.dvg_cells_core.specs.Core as core_pin
+
+-- a number cut into these many bits each, the highest ones first
+abbrev pub cut : (widths : List ℕ) → ℕ → List ℕ
+cut [] number = []
+cut (width ∷ widths) number = number / 2 ^ sum widths % 2 ^ width ∷ cut widths number
+
+-- the bits of each pin, of those that are driven and of the others
+abbrev widths : List ℕ
+widths = 1 ∷ 1 ∷ 1 ∷ 1 ∷ 8 ∷ 12 ∷ 1 ∷ 1 ∷ 1 ∷ 2 ∷ 1 ∷ 21 ∷ 21 ∷ 21 ∷ 21 ∷ 4 ∷ 1 ∷ 1 ∷ 1 ∷ 1 ∷ 4 ∷ 1 ∷ 1 ∷ 10 ∷ 10 ∷ 4 ∷ []
 
 -- the pins that are driven in a clock
 abbrev pins : List ℕ → Pins
@@ -33,10 +43,10 @@ tells core t =
     && (nat_eq (core_pin.dy_sign core (pins t)) (slice_index t 22) && (nat_eq (core_pin.dx core (pins t)) (slice_index t 23)
     && (nat_eq (core_pin.dy core (pins t)) (slice_index t 24) && nat_eq (core_pin.vec_z core (pins t)) (slice_index t 25)))))))))
 
-abbrev pass_from : Core → List (List ℕ) → Bool
+abbrev pass_from : Core → List ℕ → Bool
 pass_from core [] = true
-pass_from core (t ∷ rest) = let now = clock core (pins t) in same now t && (tells now t && pass_from now rest)
+pass_from core (number ∷ rest) = let t = cut widths number in let now = clock core (pins t) in same now t && (tells now t && pass_from now rest)
 
 -- each clock of a list since power-up passes
-abbrev pub all_pass : List (List ℕ) → Bool
+abbrev pub all_pass : List ℕ → Bool
 all_pass clocks = pass_from zeros clocks

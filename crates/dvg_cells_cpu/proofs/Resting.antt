@@ -61,3 +61,23 @@ held state cells cpu due holds at is = λ j. record {
 pub stood : (cells : Cells) (cpu : Cpu) → Rests cells cpu → cells.due ≡ 0
     → cells ≡ resting cpu cells.ir cells.low cells.high cells.back cells.was
 stood cells cpu rests free = held 2 cells cpu 0 rests.holds rests.fetches free
+
+-- and those rest
+pub rests_as : (cells : Cells) (cpu : Cpu)
+    → cells ≡ in_state 2 cpu cells.ir cells.low cells.high cells.back cells.was cells.due → Rests cells cpu
+rests_as cells cpu is = record {
+  holds = record {
+    a = λ j. (is j).a;
+    x = λ j. (is j).x;
+    y = λ j. (is j).y;
+    s = λ j. (is j).s;
+    pc = λ j. (is j).pc;
+    n = λ j. (is j).n;
+    z = λ j. (is j).z;
+    c = λ j. (is j).c;
+    v = λ j. (is j).v;
+    d = λ j. (is j).d;
+    i = λ j. (is j).i;
+  };
+  fetches = λ j. (is j).state;
+}

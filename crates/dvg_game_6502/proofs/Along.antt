@@ -33,59 +33,23 @@ as_cpu st cpu alike = λ j. record st {
 -- a jump to the reset is one of the machine's, too
 restarts_as : (kind : Kind) (cpu : Cpu) (st : State) → restarting kind (idle cpu) ≡ restarting kind (of_cpu cpu st)
 restarts_as (Quiet sets bytes) cpu st = refl
-restarts_as (Reads sets place) cpu st = refl
-restarts_as (Transfer from to) cpu st = refl
-restarts_as (Stores place) cpu st = refl
-restarts_as Push cpu st = refl
-restarts_as PushFlags cpu st = refl
-restarts_as Pull cpu st = refl
-restarts_as PullFlags cpu st = refl
-restarts_as Branch cpu st = refl
-restarts_as Jump cpu st = refl
-restarts_as Call cpu st = refl
-restarts_as Return cpu st = refl
-restarts_as Finish cpu st = refl
-restarts_as Wild cpu st = refl
+restarts_as _ cpu st = refl
 
 pub restarts_same : (cpu : Cpu) (st : State) → Play.restarts cpu ≡ restarts (of_cpu cpu st)
 restarts_same cpu st = restarts_as (kind_of (cpu.mem cpu.pc)) cpu st
 
 pub calls_as : (kind : Kind) (cpu : Cpu) (st : State) → calling kind (idle cpu) ≡ calling kind (of_cpu cpu st)
 calls_as (Quiet sets bytes) cpu st = refl
-calls_as (Reads sets place) cpu st = refl
-calls_as (Transfer from to) cpu st = refl
-calls_as (Stores place) cpu st = refl
-calls_as Push cpu st = refl
-calls_as PushFlags cpu st = refl
-calls_as Pull cpu st = refl
-calls_as PullFlags cpu st = refl
-calls_as Branch cpu st = refl
-calls_as Jump cpu st = refl
-calls_as Call cpu st = refl
-calls_as Return cpu st = refl
-calls_as Finish cpu st = refl
-calls_as Wild cpu st = refl
+calls_as _ cpu st = refl
 
 -- what is asked of an instruction so that the machine follows
 own : (kind : Kind) (cpu : Cpu) (st : State) → calling kind (of_cpu cpu st) ≡ false
     → (is_finish kind ≡ true → st.home ≡ None) → cpu.x < 256 → cpu.y < 256 → IsOwn kind cpu st
-own (Quiet sets bytes) cpu st calls out x y = tt
-own (Reads sets place) cpu st calls out x y = tt
-own (Transfer from to) cpu st calls out x y = tt
-own (Stores ZeroPage) cpu st calls out x y = tt
-own (Stores ZeroPageIndexed) cpu st calls out x y = tt
-own (Stores Absolute) cpu st calls out x y = tt
 own (Stores AbsoluteIndexed) cpu st calls out x y = (x, y)
-own Push cpu st calls out x y = tt
-own PushFlags cpu st calls out x y = tt
-own Pull cpu st calls out x y = tt
-own PullFlags cpu st calls out x y = tt
-own Branch cpu st calls out x y = tt
 own Jump cpu st calls out x y = calls
 own Call cpu st calls out x y = calls
-own Return cpu st calls out x y = tt
 own Finish cpu st calls out x y = out refl
-own Wild cpu st calls out x y = tt
+own _ cpu st calls out x y = tt
 
 -- the machine takes the processor's step
 pub record Followed (rom : ℕ → ℕ) (start : ℕ) (cpu new : Cpu) (st : State) : Type 0 where
@@ -140,11 +104,6 @@ along (Stores place) choice st calls = record {
   blank = refl;
   awake = λ e. (both_true st.awake (not (is_own (address place st.mem st.pc choice.index))) e).0;
 }
-along Push choice st calls = record { since = refl; blank = refl; awake = λ e. e }
-along PushFlags choice st calls = record { since = refl; blank = refl; awake = λ e. e }
-along Pull choice st calls = record { since = refl; blank = refl; awake = λ e. e }
-along PullFlags choice st calls = record { since = refl; blank = refl; awake = λ e. e }
-along Branch choice st calls = record { since = refl; blank = refl; awake = λ e. e }
 along Jump choice st calls = by (is_driver (word_at st.mem (st.pc + 1))) calls
   where
     by : (t : Bool) → t ≡ false → Along st (if t then returned (driven (word_at st.mem (st.pc + 1)) choice (ticked st))
@@ -155,15 +114,13 @@ along Call choice st calls = by (is_driver (word_at st.mem (st.pc + 1))) calls
   where
     by : (t : Bool) → t ≡ false → Along st (if t then record (driven (word_at st.mem (st.pc + 1)) choice (ticked st)) {
       pc = st.pc + 3;
-    }
-        else called (word_at st.mem (st.pc + 1)) (ticked st))
+    } else called (word_at st.mem (st.pc + 1)) (ticked st))
     by false is = record { since = refl; blank = refl; awake = λ e. e }
     by true is = absurd (cc)
-along Return choice st calls = record { since = refl; blank = refl; awake = λ e. e }
 along Finish choice st calls = home_along st.home st
     (record (ticked st) { pc = resumed_at st; s = (st.s + 3) % 256; amid = None; home = None })
     (record { since = refl; blank = refl; awake = λ e. e })
-along Wild choice st calls = record { since = refl; blank = refl; awake = λ e. e }
+along _ choice st calls = record { since = refl; blank = refl; awake = λ e. e }
 
 pub amid_stays : (kind : Kind) (choice : Choice) (st : State) → calling kind st ≡ false → is_finish kind ≡ false
     → Amid st (does kind choice (ticked st))
@@ -178,12 +135,6 @@ amid_stays (Reads (Only Y) place) choice st calls more = record { amid = refl; h
 amid_stays (Transfer from A) choice st calls more = record { amid = refl; home = refl }
 amid_stays (Transfer from X) choice st calls more = record { amid = refl; home = refl }
 amid_stays (Transfer from Y) choice st calls more = record { amid = refl; home = refl }
-amid_stays (Stores place) choice st calls more = record { amid = refl; home = refl }
-amid_stays Push choice st calls more = record { amid = refl; home = refl }
-amid_stays PushFlags choice st calls more = record { amid = refl; home = refl }
-amid_stays Pull choice st calls more = record { amid = refl; home = refl }
-amid_stays PullFlags choice st calls more = record { amid = refl; home = refl }
-amid_stays Branch choice st calls more = record { amid = refl; home = refl }
 amid_stays Jump choice st calls more = by (is_driver (word_at st.mem (st.pc + 1))) calls
   where
     by : (t : Bool) → t ≡ false → Amid st (if t then returned (driven (word_at st.mem (st.pc + 1)) choice (ticked st))
@@ -194,13 +145,11 @@ amid_stays Call choice st calls more = by (is_driver (word_at st.mem (st.pc + 1)
   where
     by : (t : Bool) → t ≡ false → Amid st (if t then record (driven (word_at st.mem (st.pc + 1)) choice (ticked st)) {
       pc = st.pc + 3;
-    }
-        else called (word_at st.mem (st.pc + 1)) (ticked st))
+    } else called (word_at st.mem (st.pc + 1)) (ticked st))
     by false is = record { amid = refl; home = refl }
     by true is = absurd (cc)
-amid_stays Return choice st calls more = record { amid = refl; home = refl }
 amid_stays Finish choice st calls more = absurd (cc)
-amid_stays Wild choice st calls more = record { amid = refl; home = refl }
+amid_stays _ choice st calls more = record { amid = refl; home = refl }
 
 -- in the game no step leads home
 pub homeless : (kind : Kind) (choice : Choice) (st : State) → st.home ≡ None → calling kind st ≡ false

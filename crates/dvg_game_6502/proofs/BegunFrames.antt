@@ -44,11 +44,6 @@ frame_same : (r : Routine) (G : List OpKind) (from : Cpu) (steps : ℕ) (others 
     → counts (frame_after (renamed r G) (call_of (renamed r G) from steps others) frame)
     ≡ counts (frame_after r (call_of r from steps others) other)
 frame_same Reset G from steps others frame other same = refl
-frame_same Tick G from steps others frame other same = same
-frame_same Ticks G from steps others frame other same = same
-frame_same Run G from steps others frame other same = same
-frame_same (Offer F) G from steps others frame other same = same
-frame_same Redraw G from steps others frame other same = same
 frame_same (Open F) G from steps others frame other same =
     either_count (is_taken (call_of (Open F) from steps others)) (Some (0, table_of G)) frame (Some
     (0, table_of F)) other
@@ -60,6 +55,7 @@ frame_same (Puts part) G from steps others frame other same =
     ∙ sym (puts_count (put_by part from) other)) same
 frame_same Close G from steps others frame other same =
     either_count (is_taken (call_of Close from steps others)) None frame None other refl same
+frame_same _ G from steps others frame other same = same
 
 frames_same : (calls : List Call) (drafts : List (List OpKind))
     → counts (frame_of (with_drafts calls drafts)) ≡ counts (frame_of calls)

@@ -21,10 +21,9 @@ use Rattle.dvg_game_6502.proofs.GameSteps.{flags_small}
 use Rattle.dvg_game_6502.proofs.Stages.{IsAccepted, Stage, safe_at}
 
 shifted_small : (shift : Shift) (carry : Bool) (old : ℕ) → old < 256 → shifted shift carry old < 256
-shifted_small Left carry old small = omega arith
 shifted_small Right carry old small = omega (arith, small)
-shifted_small RotateLeft carry old small = omega arith
 shifted_small RotateRight carry old small = let bit = bit_small carry in omega (arith, small, bit)
+shifted_small _ carry old small = omega arith
 
 -- a register is set to a byte
 set_bytes : (r : Register) (byte : ℕ) (cpu : Cpu) → byte < 256 → AreBytes cpu → AreBytes (setting r byte cpu)
@@ -34,11 +33,7 @@ set_bytes Y byte cpu small bytes = record { a = bytes.a; x = bytes.x; y = small;
 
 flag_bytes : (flag : Flag) (to : Bool) (cpu : Cpu) → AreBytes cpu → AreBytes (flagging flag to cpu)
 flag_bytes Negative to cpu bytes = record { a = bytes.a; x = bytes.x; y = bytes.y; s = bytes.s; mem = bytes.mem }
-flag_bytes Zero to cpu bytes = record { a = bytes.a; x = bytes.x; y = bytes.y; s = bytes.s; mem = bytes.mem }
-flag_bytes Carry to cpu bytes = record { a = bytes.a; x = bytes.x; y = bytes.y; s = bytes.s; mem = bytes.mem }
-flag_bytes Overflow to cpu bytes = record { a = bytes.a; x = bytes.x; y = bytes.y; s = bytes.s; mem = bytes.mem }
-flag_bytes Decimal to cpu bytes = record { a = bytes.a; x = bytes.x; y = bytes.y; s = bytes.s; mem = bytes.mem }
-flag_bytes Interrupt to cpu bytes = record { a = bytes.a; x = bytes.x; y = bytes.y; s = bytes.s; mem = bytes.mem }
+flag_bytes _ to cpu bytes = record { a = bytes.a; x = bytes.x; y = bytes.y; s = bytes.s; mem = bytes.mem }
 
 sum_bytes : (byte : ℕ) (cpu : Cpu) → AreBytes cpu → AreBytes (summing byte cpu)
 sum_bytes byte cpu bytes = record { a = omega arith; x = bytes.x; y = bytes.y; s = bytes.s; mem = bytes.mem }
@@ -67,14 +62,7 @@ module _ (cpu : Cpu) (bytes : AreBytes cpu) (flag : cpu.flags 0 < 256) where
 
   reading_bytes : (mode : Mode) → AreBytes (reading mode cpu)
   reading_bytes Immediate = record { a = bytes.a; x = bytes.x; y = bytes.y; s = bytes.s; mem = bytes.mem }
-  reading_bytes ZeroPage = record { a = bytes.a; x = bytes.x; y = bytes.y; s = bytes.s; mem = bytes.mem }
-  reading_bytes ZeroPageX = record { a = bytes.a; x = bytes.x; y = bytes.y; s = bytes.s; mem = bytes.mem }
-  reading_bytes ZeroPageY = record { a = bytes.a; x = bytes.x; y = bytes.y; s = bytes.s; mem = bytes.mem }
-  reading_bytes Absolute = record { a = bytes.a; x = bytes.x; y = bytes.y; s = bytes.s; mem = bytes.mem }
-  reading_bytes AbsoluteX = record { a = bytes.a; x = bytes.x; y = bytes.y; s = bytes.s; mem = bytes.mem }
-  reading_bytes AbsoluteY = record { a = bytes.a; x = bytes.x; y = bytes.y; s = bytes.s; mem = bytes.mem }
-  reading_bytes IndexedIndirect = record { a = bytes.a; x = bytes.x; y = bytes.y; s = bytes.s; mem = bytes.mem }
-  reading_bytes IndirectIndexed = record { a = bytes.a; x = bytes.x; y = bytes.y; s = bytes.s; mem = bytes.mem }
+  reading_bytes _ = record { a = bytes.a; x = bytes.x; y = bytes.y; s = bytes.s; mem = bytes.mem }
 
   register_small : (r : Register) → of_register r cpu < 256
   register_small A = bytes.a
@@ -127,9 +115,6 @@ module _ (cpu : Cpu) (bytes : AreBytes cpu) (flag : cpu.flags 0 < 256) where
       (next_bytes 1) in
       record { a = now.a; x = now.x; y = now.y; s = now.s; mem = now.mem }
   does_bytes (Set flag to) low = flag_bytes flag to (next 1 cpu) (next_bytes 1)
-  does_bytes (Branch flag when) low = record { a = bytes.a; x = bytes.x; y = bytes.y; s = bytes.s; mem = bytes.mem }
-  does_bytes Jump low = record { a = bytes.a; x = bytes.x; y = bytes.y; s = bytes.s; mem = bytes.mem }
-  does_bytes JumpAt low = record { a = bytes.a; x = bytes.x; y = bytes.y; s = bytes.s; mem = bytes.mem }
   does_bytes Call low = record {
     a = bytes.a;
     x = bytes.x;
@@ -165,8 +150,8 @@ module _ (cpu : Cpu) (bytes : AreBytes cpu) (flag : cpu.flags 0 < 256) where
   does_bytes FromStack low = record { a = bytes.a; x = bytes.s; y = bytes.y; s = bytes.s; mem = bytes.mem }
   does_bytes ToStack low = record { a = bytes.a; x = bytes.x; y = bytes.y; s = bytes.x; mem = bytes.mem }
   does_bytes Resume low = record { a = bytes.a; x = bytes.x; y = bytes.y; s = omega arith; mem = bytes.mem }
-  does_bytes Pass low = record { a = bytes.a; x = bytes.x; y = bytes.y; s = bytes.s; mem = bytes.mem }
   does_bytes Unknown low = bytes
+  does_bytes _ low = record { a = bytes.a; x = bytes.x; y = bytes.y; s = bytes.s; mem = bytes.mem }
 
 -- an instruction, where the flag answers with a byte
 pub done_bytes : (flags : ℕ → ℕ) (cpu : Cpu) → AreBytes cpu → flags 0 < 256 → cpu.pc < 65534 → AreBytes (done flags cpu)

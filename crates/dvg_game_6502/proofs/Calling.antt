@@ -30,18 +30,13 @@ use Rattle.dvg_game_6502.proofs.Stages.{Back, jmp, jsr, InDriver, InGame, Rests,
 
 -- each entry is in the driver's code
 entry_there : (routine : Routine) → driver.is_code (entry routine) ≡ true
-entry_there calls_of.Reset = refl
-entry_there calls_of.Tick = refl
-entry_there calls_of.Ticks = refl
-entry_there calls_of.Run = refl
 entry_there (calls_of.Offer F) = refl
-entry_there calls_of.Redraw = refl
 entry_there (calls_of.Open F) = refl
 entry_there (calls_of.Puts Put) = refl
 entry_there (calls_of.Puts Pair) = refl
 entry_there (calls_of.Puts Labs) = refl
 entry_there (calls_of.Puts Vector) = refl
-entry_there calls_of.Close = refl
+entry_there _ = refl
 
 -- the driver's bytes, one by one
 byte_at : (bytes : List ℕ) (mem : ℕ → ℕ) (at : ℕ) → safes.AreBytes bytes mem at → (i : ℕ) → i < length bytes

@@ -26,8 +26,7 @@ use Rattle.dvg_game_6502.proofs.Opened.{code_guarded}
 use Rattle.dvg_game_6502.proofs.Sessions.{further, further_turns, session_goes_on}
 
 -- the driver's bytes are guarded
-own_guarded : (tables : ℕ → Bool) (s now b : ℕ) → is_own b ≡ true
-    → guards (is_kept tables) s now b ≡ true
+own_guarded : (tables : ℕ → Bool) (s now b : ℕ) → is_own b ≡ true → guards (is_kept tables) s now b ≡ true
 own_guarded tables s now b is = or_left (is_kept tables b) _ (or_left (is_own b) _ is)
 
 -- so are the two bytes above S where it's lower
@@ -64,8 +63,7 @@ good_changed awake tables s cpu m same good = record {
       (subst (λ j. Holds good.note.claim (cpu.mem 0x10) j (m 0x15)) (sym (own 0x14 refl))
       (subst (λ j. Holds good.note.claim (cpu.mem 0x10) (cpu.mem 0x14) j)
       (sym (own 0x15 refl)) good.claim));
-  also = subst (λ j. Means good.note.also j cpu.a cpu.x cpu.y cpu.z cpu.n)
-      (sym (own 0x10 refl)) good.also;
+  also = subst (λ j. Means good.note.also j cpu.a cpu.x cpu.y cpu.z cpu.n) (sym (own 0x10 refl)) good.also;
   aware = good.aware;
 }
   where
@@ -100,8 +98,7 @@ hard_before s cpu hard = by (at_return s cpu) hard
     by false hard = hard_rest (step (record cpu { log = [] })).log cpu.log
         (subst (λ (k : Cpu). AreHard k.log) (log_is_passive cpu) hard)
 
-hard_at_first : (s : ℕ) (n : ℕ) (others : ℕ → ℕ → ℕ) (cpu : Cpu) → AreHard (amid s others n cpu).log
-    → AreHard cpu.log
+hard_at_first : (s : ℕ) (n : ℕ) (others : ℕ → ℕ → ℕ) (cpu : Cpu) → AreHard (amid s others n cpu).log → AreHard cpu.log
 hard_at_first s zero others cpu hard = hard
 hard_at_first s (suc n) others cpu hard = hard_before s (changed (others 0) cpu)
     (hard_at_first s n (λ k. others (suc k)) (turn s (changed (others 0) cpu)) hard)
@@ -124,10 +121,8 @@ abbrev IsReady : (ℕ → ℕ) → Type 0
 IsReady mem = HoldsIn Ready mem
 
 -- at a routine's entry
-entered : (awake : Bool) (s at : ℕ) (claim : Claim) (within : Bool) (cpu : Cpu) → cpu.s ≡ s
-    → Enters cpu at
-    → noted at ≡ Some (record { inner = within; claim = claim; also = Nothing })
-    → HoldsIn claim cpu.mem
+entered : (awake : Bool) (s at : ℕ) (claim : Claim) (within : Bool) (cpu : Cpu) → cpu.s ≡ s → Enters cpu at
+    → noted at ≡ Some (record { inner = within; claim = claim; also = Nothing }) → HoldsIn claim cpu.mem
     → (awake ≡ true → is_known claim ≡ true) → Good awake s cpu
 entered awake s at claim within cpu level enters there holds aware = record {
   coded = λ b is. code_at b is;
@@ -153,21 +148,15 @@ abbrev is_awake : Routine → Bool
 is_awake c.Reset = false
 is_awake routine = true
 
-begun : (routine : Routine) (cpu : Cpu) → Enters cpu (entry routine)
-    → (is_awake routine ≡ true → IsReady cpu.mem)
+begun : (routine : Routine) (cpu : Cpu) → Enters cpu (entry routine) → (is_awake routine ≡ true → IsReady cpu.mem)
     → Good (is_awake routine) cpu.s cpu
-begun c.Reset cpu enters ready =
-    entered false cpu.s 0x6800 Unknown false cpu refl enters refl tt (λ is. absurd (cc))
-begun c.Tick cpu enters ready =
-    entered true cpu.s 0x686A Ready true cpu refl enters refl (ready refl) (λ is. refl)
-begun c.Ticks cpu enters ready =
-    entered true cpu.s 0x6860 Ready false cpu refl enters refl (ready refl) (λ is. refl)
-begun c.Run cpu enters ready =
-    entered true cpu.s 0x6809 Ready false cpu refl enters refl (ready refl) (λ is. refl)
+begun c.Reset cpu enters ready = entered false cpu.s 0x6800 Unknown false cpu refl enters refl tt (λ is. absurd (cc))
+begun c.Tick cpu enters ready = entered true cpu.s 0x686A Ready true cpu refl enters refl (ready refl) (λ is. refl)
+begun c.Ticks cpu enters ready = entered true cpu.s 0x6860 Ready false cpu refl enters refl (ready refl) (λ is. refl)
+begun c.Run cpu enters ready = entered true cpu.s 0x6809 Ready false cpu refl enters refl (ready refl) (λ is. refl)
 begun (c.Offer F) cpu enters ready = entered true cpu.s 0x68FE Sized false cpu refl enters refl
     (enters.loaded.bytes 0x10, ready refl) (λ is. refl)
-begun c.Redraw cpu enters ready =
-    entered true cpu.s 0x6943 Ready false cpu refl enters refl (ready refl) (λ is. refl)
+begun c.Redraw cpu enters ready = entered true cpu.s 0x6943 Ready false cpu refl enters refl (ready refl) (λ is. refl)
 begun (c.Open F) cpu enters ready = entered true cpu.s 0x6924 Sized false cpu refl enters refl
     (enters.loaded.bytes 0x10, ready refl) (λ is. refl)
 begun (c.Puts Put) cpu enters ready =
@@ -178,8 +167,7 @@ begun (c.Puts Labs) cpu enters ready =
     entered true cpu.s 0x6979 Ready false cpu refl enters refl (ready refl) (λ is. refl)
 begun (c.Puts Vector) cpu enters ready =
     entered true cpu.s 0x6A17 Ready false cpu refl enters refl (ready refl) (λ is. refl)
-begun c.Close cpu enters ready =
-    entered true cpu.s 0x6A00 Ready false cpu refl enters refl (ready refl) (λ is. refl)
+begun c.Close cpu enters ready = entered true cpu.s 0x6A00 Ready false cpu refl enters refl (ready refl) (λ is. refl)
 
 -- what is known tells so, if it isn't nothing
 ready_by : (claim : Claim) (mem : ℕ → ℕ) → is_known claim ≡ true → HoldsIn claim mem → IsReady mem
@@ -199,8 +187,7 @@ abbrev end_known : List (ℕ × Note) → Bool
 end_known [] = true
 end_known (row ∷ rows) = (is_known row.1.claim || not (is_end (byte_at row.0))) && end_known rows
 
-known_of : (table : List (ℕ × Note)) (at : ℕ) (note : Note) → end_known table ≡ true
-    → lookup table at ≡ Some note
+known_of : (table : List (ℕ × Note)) (at : ℕ) (note : Note) → end_known table ≡ true → lookup table at ≡ Some note
     → is_end (byte_at at) ≡ true → is_known note.claim ≡ true
 known_of [] at note all is ends = absurd (cc)
 known_of (row ∷ rows) at note all is ends =
@@ -214,8 +201,7 @@ known_of (row ∷ rows) at note all is ends =
     either false true a b = absurd (cc)
     either false false a b = absurd (cc)
 
-    by : (t : Bool) → nat_eq row.0 at ≡ t
-        → (lookup rows at ≡ Some note → is_known note.claim ≡ true)
+    by : (t : Bool) → nat_eq row.0 at ≡ t → (lookup rows at ≡ Some note → is_known note.claim ≡ true)
         → is_known note.claim ≡ true
     by true same rest =
         let it : row.1 ≡ note = some_same
@@ -223,12 +209,10 @@ known_of (row ∷ rows) at note all is ends =
         ap (λ (k : Note). is_known k.claim) (sym it)
         ∙ either (is_known row.1.claim) (is_end (byte_at row.0)) two.0
         (ap (λ a. is_end (byte_at a)) (eqb-true row.0 at same) ∙ ends)
-    by false other rest = rest
-        (sym (ap (λ (t : Bool). if t then Some row.1 else lookup rows at) other) ∙ is)
+    by false other rest = rest (sym (ap (λ (t : Bool). if t then Some row.1 else lookup rows at) other) ∙ is)
 
 -- where a call ends the driver's bytes are ready
-ready_at_end : (awake : Bool) (s : ℕ) (cpu : Cpu) → Good awake s cpu
-    → is_end (cpu.mem cpu.pc) ≡ true → IsReady cpu.mem
+ready_at_end : (awake : Bool) (s : ℕ) (cpu : Cpu) → Good awake s cpu → is_end (cpu.mem cpu.pc) ≡ true → IsReady cpu.mem
 ready_at_end awake s cpu good ends = ready_by good.note.claim cpu.mem
     (known_of notes cpu.pc good.note refl good.here
     (ap is_end (sym (good.coded cpu.pc (noted_is_code cpu.pc good.note good.here)))
@@ -238,8 +222,7 @@ ready_awake : (s : ℕ) (cpu : Cpu) → Good true s cpu → IsReady cpu.mem
 ready_awake s cpu good = ready_by good.note.claim cpu.mem (good.aware refl) good.claim
 
 returned_ends : (s : ℕ) (cpu : Cpu) → at_return s cpu ≡ true → is_end (cpu.mem cpu.pc) ≡ true
-returned_ends s cpu is = or_left (nat_eq (cpu.mem cpu.pc) 0x60) _
-    (both_true (nat_eq (cpu.mem cpu.pc) 0x60) _ is).0
+returned_ends s cpu is = or_left (nat_eq (cpu.mem cpu.pc) 0x60) _ (both_true (nat_eq (cpu.mem cpu.pc) 0x60) _ is).0
 
 leaving_ends : (s : ℕ) (cpu : Cpu) → is_leaving s cpu ≡ true → is_end (cpu.mem cpu.pc) ≡ true
 leaving_ends s cpu is = or_right (nat_eq (cpu.mem cpu.pc) 0x60) (nat_eq (cpu.mem cpu.pc) 0x18)
@@ -248,8 +231,7 @@ leaving_ends s cpu is = or_right (nat_eq (cpu.mem cpu.pc) 0x60) (nat_eq (cpu.mem
 
 -- where a call is over
 ready_over : (call : Call) (routine : Routine) → call.routine ≡ routine
-    → Good (is_awake routine) call.from.s (after call) → is_over call ≡ true
-    → IsReady (after call).mem
+    → Good (is_awake routine) call.from.s (after call) → is_over call ≡ true → IsReady (after call).mem
 ready_over call c.Reset same good over =
     by (c.has_returned call) refl (is_refused call) refl
     (is_leaving call.from.s (after call)) refl over
@@ -259,8 +241,7 @@ ready_over call c.Reset same good over =
         let f = sym (ap (λ r. c.finds_busy r call.from.mem) same) ∙ e in cc)
 
     by : (t : Bool) → c.has_returned call ≡ t → (u : Bool) → is_refused call ≡ u → (v : Bool)
-        → is_leaving call.from.s (after call) ≡ v → (t || (u || v)) ≡ true
-        → IsReady (after call).mem
+        → is_leaving call.from.s (after call) ≡ v → (t || (u || v)) ≡ true → IsReady (after call).mem
     by true returned u refused v leaving over =
         ready_at_end false call.from.s (after call) good
         (returned_ends call.from.s (after call) returned)
@@ -272,8 +253,7 @@ ready_over call c.Reset same good over =
 ready_over call routine same good over = ready_awake call.from.s (after call) good
 
 -- others leave the driver's bytes as they are between two calls
-ready_on : (mem now : ℕ → ℕ) → ((b : ℕ) → is_own b ≡ true → now b ≡ mem b) → IsReady mem
-    → IsReady now
+ready_on : (mem now : ℕ → ℕ) → ((b : ℕ) → is_own b ≡ true → now b ≡ mem b) → IsReady mem → IsReady now
 ready_on mem now own ready = subst (λ j. Holds Ready j (now 0x14) (now 0x15)) (sym (own 0x10 refl))
     (subst (λ j. Holds Ready (mem 0x10) j (now 0x15)) (sym (own 0x14 refl))
     (subst (λ j. Holds Ready (mem 0x10) (mem 0x14) j) (sym (own 0x15 refl)) ready))
@@ -288,18 +268,10 @@ good_from R call calls session ready =
     (begun call.routine call.from session.0 (unless call.routine session.3)) session.2
     (hard_session R call calls session)
   where
-    unless : (routine : Routine)
-        → UnlessReset routine (c.Follows call calls × IsSessionBy (Tells R) calls)
+    unless : (routine : Routine) → UnlessReset routine (c.Follows call calls × IsSessionBy (Tells R) calls)
         → is_awake routine ≡ true → IsReady call.from.mem
     unless c.Reset is awake = absurd (cc)
-    unless c.Tick is awake = ready is
-    unless c.Ticks is awake = ready is
-    unless c.Run is awake = ready is
-    unless (c.Offer F) is awake = ready is
-    unless c.Redraw is awake = ready is
-    unless (c.Open F) is awake = ready is
-    unless (c.Puts part) is awake = ready is
-    unless c.Close is awake = ready is
+    unless _ is awake = ready is
 
 -- and so after each call of a session
 pub good_call : (R : List ℕ) (call : Call) (calls : List Call) → IsSessionBy (Tells R) (call ∷ calls)

@@ -39,8 +39,7 @@ stays R routine s calls cpu log flags call not_there deep = record {
   place = ap (λ (k : Cpu). driver.is_code k.pc) (sym same) ∙ did.place;
   level = subst (λ (q : ℕ). ((done flags cpu).s ≡ q) ⊎ ((done flags cpu).s + 2 ≡ q)) level
       (subst (λ (k : Cpu). (k.s ≡ is.call.from.s) ⊎ (k.s + 2 ≡ is.call.from.s)) same did.level);
-  kept = λ b off. ap (λ (k : Cpu). k.mem b) (sym same)
-      ∙ did.kept b (ap (λ q. is_written q b) level ∙ off);
+  kept = λ b off. ap (λ (k : Cpu). k.mem b) (sym same) ∙ did.kept b (ap (λ q. is_written q b) level ∙ off);
 }
   where
     is : IsIn R routine s calls cpu log flags

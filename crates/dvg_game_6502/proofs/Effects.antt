@@ -32,18 +32,10 @@ record Read (mode : Mode) (cpu new : Cpu) : Type 0 where
 
 read : (mode : Mode) (cpu : Cpu) → Read mode cpu (reading mode cpu)
 read Immediate cpu = record { pc = refl; s = refl; a = refl; x = refl; y = refl; mem = refl }
-read ZeroPage cpu = record { pc = refl; s = refl; a = refl; x = refl; y = refl; mem = refl }
-read ZeroPageX cpu = record { pc = refl; s = refl; a = refl; x = refl; y = refl; mem = refl }
-read ZeroPageY cpu = record { pc = refl; s = refl; a = refl; x = refl; y = refl; mem = refl }
-read Absolute cpu = record { pc = refl; s = refl; a = refl; x = refl; y = refl; mem = refl }
-read AbsoluteX cpu = record { pc = refl; s = refl; a = refl; x = refl; y = refl; mem = refl }
-read AbsoluteY cpu = record { pc = refl; s = refl; a = refl; x = refl; y = refl; mem = refl }
-read IndexedIndirect cpu = record { pc = refl; s = refl; a = refl; x = refl; y = refl; mem = refl }
-read IndirectIndexed cpu = record { pc = refl; s = refl; a = refl; x = refl; y = refl; mem = refl }
+read _ cpu = record { pc = refl; s = refl; a = refl; x = refl; y = refl; mem = refl }
 
 -- A, X or Y is set after a byte was taken
-a_set : (instr : Instr) (mode : Mode) (cpu k : Cpu) (byte : ℕ) → Read mode cpu k
-    → length_of instr ≡ size mode
+a_set : (instr : Instr) (mode : Mode) (cpu k : Cpu) (byte : ℕ) → Read mode cpu k → length_of instr ≡ size mode
     → sets A instr ≡ true → Quiet instr cpu (setting A byte k)
 a_set instr mode cpu k byte r bytes set = record {
   goes = record {
@@ -57,8 +49,7 @@ a_set instr mode cpu k byte r bytes set = record {
 }
 
 loads : (r : Register) (mode : Mode) (cpu : Cpu) → Quiet (Load r mode) cpu (does (Load r mode) cpu)
-loads A mode cpu = a_set (Load A mode) mode cpu (reading mode cpu) (operand mode cpu)
-    (read mode cpu) refl refl
+loads A mode cpu = a_set (Load A mode) mode cpu (reading mode cpu) (operand mode cpu) (read mode cpu) refl refl
 loads X mode cpu = let r = read mode cpu in record {
   goes = record { pc = r.pc; s = r.s; a = λ off. r.a; x = λ off. absurd (cc); y = λ off. r.y };
   mem = r.mem;
@@ -68,8 +59,7 @@ loads Y mode cpu = let r = read mode cpu in record {
   mem = r.mem;
 }
 
-moves : (from to : Register) (cpu : Cpu)
-    → Quiet (Transfer from to) cpu (does (Transfer from to) cpu)
+moves : (from to : Register) (cpu : Cpu) → Quiet (Transfer from to) cpu (does (Transfer from to) cpu)
 moves from A cpu = record {
   goes = record { pc = refl; s = refl; a = λ off. absurd (cc); x = λ off. refl; y = λ off. refl };
   mem = refl;
@@ -98,16 +88,14 @@ steps Y by cpu = record {
 }
 
 -- only flags are set
-flags_set : (instr : Instr) (cpu new : Cpu) → new.pc ≡ cpu.pc + length_of instr → new.s ≡ cpu.s
-    → new.a ≡ cpu.a
+flags_set : (instr : Instr) (cpu new : Cpu) → new.pc ≡ cpu.pc + length_of instr → new.s ≡ cpu.s → new.a ≡ cpu.a
     → new.x ≡ cpu.x → new.y ≡ cpu.y → new.mem ≡ cpu.mem → Quiet instr cpu new
 flags_set instr cpu new pc s a x y mem = record {
   goes = record { pc = pc; s = s; a = λ off. a; x = λ off. x; y = λ off. y };
   mem = mem;
 }
 
-sets_flag : (flag : Flag) (to : Bool) (cpu : Cpu)
-    → Quiet (Set flag to) cpu (flagging flag to (next 1 cpu))
+sets_flag : (flag : Flag) (to : Bool) (cpu : Cpu) → Quiet (Set flag to) cpu (flagging flag to (next 1 cpu))
 sets_flag Negative to cpu = flags_set (Set Negative to) cpu _ refl refl refl refl refl refl
 sets_flag Zero to cpu = flags_set (Set Zero to) cpu _ refl refl refl refl refl refl
 sets_flag Carry to cpu = flags_set (Set Carry to) cpu _ refl refl refl refl refl refl
@@ -139,10 +127,8 @@ pub record Stored (instr : Instr) (cpu new : Cpu) : Type 0 where
   pub byte : ℕ
   pub mem : new.mem ≡ put (cpu.mem (cpu.pc + 1)) byte cpu.mem
 
-stores_it : (instr : Instr) (cpu new : Cpu) (byte : ℕ) → new.pc ≡ cpu.pc + length_of instr
-    → new.s ≡ cpu.s
-    → new.a ≡ cpu.a → new.x ≡ cpu.x → new.y ≡ cpu.y
-    → new.mem ≡ put (cpu.mem (cpu.pc + 1)) byte cpu.mem
+stores_it : (instr : Instr) (cpu new : Cpu) (byte : ℕ) → new.pc ≡ cpu.pc + length_of instr → new.s ≡ cpu.s
+    → new.a ≡ cpu.a → new.x ≡ cpu.x → new.y ≡ cpu.y → new.mem ≡ put (cpu.mem (cpu.pc + 1)) byte cpu.mem
     → Stored instr cpu new
 stores_it instr cpu new byte pc s a x y mem = record {
   goes = record { pc = pc; s = s; a = λ off. a; x = λ off. x; y = λ off. y };
@@ -150,12 +136,8 @@ stores_it instr cpu new byte pc s a x y mem = record {
   mem = mem;
 }
 
-pub stored : (instr : Instr) (cpu : Cpu) → is_storing instr ≡ true
-    → Stored instr cpu (does instr cpu)
-stored (Store r ZeroPage) cpu is =
-    stores_it (Store r ZeroPage) cpu _ _ refl refl refl refl refl refl
-stored (Change ZeroPage by) cpu is =
-    stores_it (Change ZeroPage by) cpu _ _ refl refl refl refl refl refl
-stored (ShiftAt shift ZeroPage) cpu is =
-    stores_it (ShiftAt shift ZeroPage) cpu _ _ refl refl refl refl refl refl
+pub stored : (instr : Instr) (cpu : Cpu) → is_storing instr ≡ true → Stored instr cpu (does instr cpu)
+stored (Store r ZeroPage) cpu is = stores_it (Store r ZeroPage) cpu _ _ refl refl refl refl refl refl
+stored (Change ZeroPage by) cpu is = stores_it (Change ZeroPage by) cpu _ _ refl refl refl refl refl refl
+stored (ShiftAt shift ZeroPage) cpu is = stores_it (ShiftAt shift ZeroPage) cpu _ _ refl refl refl refl refl refl
 stored instr cpu is = absurd (cc)

@@ -96,6 +96,10 @@ pub record Picked (R : List ℕ) (rom : ℕ → ℕ) (new : Cpu) (calls : List C
   pub rested : UnlessReset routine (Rested R calls new.mem)
   pub frame : UnlessReset routine (blank ≡ false → NotBlank (frame_of calls))
 
+unless : (routine : Routine) (P : Type 0) → P → UnlessReset routine P
+unless calls_of.Reset P p = tt
+unless routine P p = p
+
 same_bytes : (flags : ℕ → ℕ) (cpu : Cpu) → AreBytes cpu → AreBytes (fresh flags cpu)
 same_bytes flags cpu bytes = record { a = bytes.a; x = bytes.x; y = bytes.y; s = bytes.s; mem = bytes.mem }
 
@@ -127,127 +131,59 @@ module _ (R : List ℕ) (rom : ℕ → ℕ) (new : Cpu) (bytes : AreBytes new) (
     frame = tt;
   }
 
-  runs : to ≡ 0x6809 → Picked R rom new calls to st.blank
-  runs at = record {
-    routine = calls_of.Run;
+  -- a routine but dvg_reset, and one that no frame is brought to
+  goes : (routine : Routine) → is_reset (entry routine) ≡ false
+      → ((flags : ℕ → ℕ) → Tells R routine (fresh flags new) (frame_of calls)) → IsChecked R routine
+      → ((b : ℕ) → is_offered routine new b ≡ true → InRom b) → to ≡ entry routine → Picked R rom new calls to st.blank
+  goes routine other tells checked offered at = record {
+    routine = routine;
     at = at;
-    tells = λ flags. tt;
-    checked = tt;
-    offered = λ b is. absurd (cc);
-    rested = (awake 0x6809 refl at).rested;
-    frame = (awake 0x6809 refl at).frame;
+    tells = tells;
+    checked = checked;
+    offered = offered;
+    rested = unless routine _ (awake (entry routine) other at).rested;
+    frame = unless routine _ (awake (entry routine) other at).frame;
   }
 
-  ticks : to ≡ 0x6860 → Picked R rom new calls to st.blank
-  ticks at = record {
-    routine = calls_of.Ticks;
-    at = at;
-    tells = λ flags. tt;
-    checked = tt;
-    offered = λ b is. absurd (cc);
-    rested = (awake 0x6860 refl at).rested;
-    frame = (awake 0x6860 refl at).frame;
-  }
-
-  tick : to ≡ 0x686A → Picked R rom new calls to st.blank
-  tick at = record {
-    routine = calls_of.Tick;
-    at = at;
-    tells = λ flags. tt;
-    checked = tt;
-    offered = λ b is. absurd (cc);
-    rested = (awake 0x686A refl at).rested;
-    frame = (awake 0x686A refl at).frame;
-  }
+  plain : (routine : Routine) → is_reset (entry routine) ≡ false
+      → ((flags : ℕ → ℕ) → Tells R routine (fresh flags new) (frame_of calls)) → IsChecked R routine
+      → ((b : ℕ) → is_offered routine new b ≡ false) → to ≡ entry routine → Picked R rom new calls to st.blank
+  plain routine other tells checked none at =
+      goes routine other tells checked (λ b is. absurd (let e = sym (none b) ∙ is in cc)) at
 
   offer : to ≡ 0x68FE → Picked R rom new calls to st.blank
-  offer at = record {
-    routine = calls_of.Offer table.draft;
-    at = at;
-    tells = λ flags. table_on rom new.mem (new.a + 256 * new.x) table.draft table.low table.ends in_rom table.table;
-    checked = table.checked;
-    offered = λ b is.
-        let two = both_true (nat_le (new.a + 256 * new.x) b) _ is in
-        let above = leb-true (new.a + 256 * new.x) b two.0 in
-        let below = leb-true (suc b) (new.a + 256 * new.x + 2 + length (table_of table.draft)) two.1 in
-        let low = table.low in let ends = table.ends in
-        (omega (arith, above, low), omega (arith, below, ends));
-    rested = (awake 0x68FE refl at).rested;
-    frame = (awake 0x68FE refl at).frame;
-  }
+  offer at =
+      goes (calls_of.Offer table.draft) refl
+      (λ flags. table_on rom new.mem (new.a + 256 * new.x) table.draft table.low table.ends in_rom table.table) table.checked
+      (λ b is.
+      let two = both_true (nat_le (new.a + 256 * new.x) b) _ is in
+      let above = leb-true (new.a + 256 * new.x) b two.0 in
+      let below = leb-true (suc b) (new.a + 256 * new.x + 2 + length (table_of table.draft)) two.1 in
+      let low = table.low in let ends = table.ends in (omega (arith, above, low), omega (arith, below, ends)))
+      at
     where
       table : IsTable R rom new
       table = tables at
 
-  opens : to ≡ 0x6924 → Picked R rom new calls to st.blank
-  opens at = record {
-    routine = calls_of.Open [];
-    at = at;
-    tells = λ flags. tt;
-    checked = tt;
-    offered = λ b is. absurd (cc);
-    rested = (awake 0x6924 refl at).rested;
-    frame = (awake 0x6924 refl at).frame;
-  }
-
-  redraws : to ≡ 0x6943 → Picked R rom new calls to st.blank
-  redraws at = record {
-    routine = calls_of.Redraw;
-    at = at;
-    tells = λ flags. tt;
-    checked = tt;
-    offered = λ b is. absurd (cc);
-    rested = (awake 0x6943 refl at).rested;
-    frame = (awake 0x6943 refl at).frame;
-  }
-
+  -- one that puts words, or ends
   puts : to ≡ 0x6957 → Picked R rom new calls to st.blank
-  puts at = record {
-    routine = calls_of.Puts Put;
-    at = at;
-    tells = λ flags. puts_word R (fresh flags new) (same_bytes flags new bytes) (worded (words at) flags)
-        (frame_of calls)
-        (begun 0x6957 refl refl at);
-    checked = tt;
-    offered = λ b is. absurd (cc);
-    rested = (awake 0x6957 refl at).rested;
-    frame = (awake 0x6957 refl at).frame;
-  }
+  puts at = plain (calls_of.Puts Put) refl
+      (λ flags. puts_word R (fresh flags new) (same_bytes flags new bytes) (worded (words at) flags) (frame_of calls)
+      (begun 0x6957 refl refl at)) tt (λ b. refl) at
 
   labs : to ≡ 0x6979 → Picked R rom new calls to st.blank
-  labs at = record {
-    routine = calls_of.Puts Labs;
-    at = at;
-    tells = λ flags. puts_labs R (fresh flags new) (same_bytes flags new bytes) (frame_of calls);
-    checked = tt;
-    offered = λ b is. absurd (cc);
-    rested = (awake 0x6979 refl at).rested;
-    frame = (awake 0x6979 refl at).frame;
-  }
+  labs = plain (calls_of.Puts Labs) refl
+      (λ flags. puts_labs R (fresh flags new) (same_bytes flags new bytes) (frame_of calls)) tt (λ b. refl)
 
   closing : to ≡ 0x6A00 → Picked R rom new calls to st.blank
-  closing at = record {
-    routine = calls_of.Close;
-    at = at;
-    tells = λ flags. closes R (fresh flags new) (same_bytes flags new bytes) (frame_of calls)
-        (begun 0x6A00 refl refl at);
-    checked = tt;
-    offered = λ b is. absurd (cc);
-    rested = (awake 0x6A00 refl at).rested;
-    frame = (awake 0x6A00 refl at).frame;
-  }
+  closing at = plain calls_of.Close refl
+      (λ flags. closes R (fresh flags new) (same_bytes flags new bytes) (frame_of calls) (begun 0x6A00 refl refl at)) tt
+      (λ b. refl) at
 
   vector : to ≡ 0x6A17 → Picked R rom new calls to st.blank
-  vector at = record {
-    routine = calls_of.Puts Vector;
-    at = at;
-    tells = λ flags. puts_vector R (fresh flags new) (same_bytes flags new bytes) (frame_of calls)
-        (begun 0x6A17 refl refl at);
-    checked = tt;
-    offered = λ b is. absurd (cc);
-    rested = (awake 0x6A17 refl at).rested;
-    frame = (awake 0x6A17 refl at).frame;
-  }
+  vector at = plain (calls_of.Puts Vector) refl
+      (λ flags. puts_vector R (fresh flags new) (same_bytes flags new bytes) (frame_of calls) (begun 0x6A17 refl refl at)) tt
+      (λ b. refl) at
 
   -- one of two
   choose : (e : ℕ) (rest : Bool) → (to ≡ e → Picked R rom new calls to st.blank)
@@ -260,7 +196,10 @@ module _ (R : List ℕ) (rom : ℕ → ℕ) (new : Cpu) (bytes : AreBytes new) (
       by (inr more) = other more
 
   pub picked : Picked R rom new calls to st.blank
-  picked = choose 0x6800 _ reset (choose 0x6809 _ runs (choose 0x6860 _ ticks (choose 0x686A _ tick
-      (choose 0x68FE _ offer (choose 0x6924 _ opens (choose 0x6943 _ redraws (choose 0x6957 _ puts
+  picked = choose 0x6800 _ reset (choose 0x6809 _ (plain calls_of.Run refl (λ flags. tt) tt (λ b. refl))
+      (choose 0x6860 _ (plain calls_of.Ticks refl (λ flags. tt) tt (λ b. refl))
+      (choose 0x686A _ (plain calls_of.Tick refl (λ flags. tt) tt (λ b. refl))
+      (choose 0x68FE _ offer (choose 0x6924 _ (plain (calls_of.Open []) refl (λ flags. tt) tt (λ b. refl))
+      (choose 0x6943 _ (plain calls_of.Redraw refl (λ flags. tt) tt (λ b. refl)) (choose 0x6957 _ puts
       (choose 0x6979 _ labs (choose 0x6989 _ (λ at. absurd (no_pair at)) (choose 0x6A00 _ closing
       (λ is. vector (eqb-true to 0x6A17 is)))))))))))) called.entry

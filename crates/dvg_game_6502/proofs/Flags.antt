@@ -82,24 +82,15 @@ module _ (cpu : Cpu) (flags : ℕ → ℕ) where
 
   same_address : (mode : Mode) (start : ℕ → ℕ) → address mode (told start cpu) ≡ address mode cpu
   same_address Immediate start = refl
-  same_address ZeroPage start = refl
-  same_address ZeroPageX start = refl
-  same_address ZeroPageY start = refl
-  same_address Absolute start = refl
-  same_address AbsoluteX start = refl
-  same_address AbsoluteY start = refl
-  same_address IndexedIndirect start = refl
-  same_address IndirectIndexed start = refl
+  same_address _ start = refl
 
   same_register : (r : Register) → of_register r (told flags cpu) ≡ of_register r cpu
   same_register A = refl
-  same_register X = refl
-  same_register Y = refl
+  same_register _ = refl
 
   set_same : (r : Register) (v : ℕ) (k : Cpu) → setting r v (told flags k) ≡ told flags (setting r v k)
   set_same A v k = refl
-  set_same X v k = refl
-  set_same Y v k = refl
+  set_same _ v k = refl
 
   stored : (r : Register) (mode : Mode) → does (Store r mode) (told flags cpu) ≡ told flags (does (Store r mode) cpu)
   stored r mode =
@@ -118,25 +109,16 @@ module _ (cpu : Cpu) (flags : ℕ → ℕ) where
 
   stepped : (r : Register) (by : ℕ) → does (Step r by) (told flags cpu) ≡ told flags (does (Step r by) cpu)
   stepped A by = refl
-  stepped X by = refl
-  stepped Y by = refl
+  stepped _ by = refl
 
   flagged : (flag : Flag) (to : Bool) → does (Set flag to) (told flags cpu) ≡ told flags (does (Set flag to) cpu)
   flagged Negative to = refl
-  flagged Zero to = refl
-  flagged Carry to = refl
-  flagged Overflow to = refl
-  flagged Decimal to = refl
-  flagged Interrupt to = refl
+  flagged _ to = refl
 
   branched : (flag : Flag) (when : Bool)
       → does (Branch flag when) (told flags cpu) ≡ told flags (does (Branch flag when) cpu)
   branched Negative when = refl
-  branched Zero when = refl
-  branched Carry when = refl
-  branched Overflow when = refl
-  branched Decimal when = refl
-  branched Interrupt when = refl
+  branched _ when = refl
 
   change : (mode : Mode) (by : ℕ) → Opens (does (Change mode by)) cpu flags
   change mode by =
@@ -193,19 +175,7 @@ module _ (cpu : Cpu) (flags : ℕ → ℕ) where
   opens (Change mode by) = change mode by
   opens (Step r by) = (flags, stepped r by)
   opens (ShiftAt shift mode) = shift_at shift mode
-  opens (ShiftA shift) = (flags, refl)
   opens (Set flag to) = (flags, flagged flag to)
   opens (Branch flag when) = (flags, branched flag when)
-  opens Jump = (flags, refl)
   opens JumpAt = jumped
-  opens Call = (flags, refl)
-  opens Return = (flags, refl)
-  opens PushA = (flags, refl)
-  opens PushFlags = (flags, refl)
-  opens PullA = (flags, refl)
-  opens PullFlags = (flags, refl)
-  opens FromStack = (flags, refl)
-  opens ToStack = (flags, refl)
-  opens Resume = (flags, refl)
-  opens Pass = (flags, refl)
-  opens Unknown = (flags, refl)
+  opens _ = (flags, refl)

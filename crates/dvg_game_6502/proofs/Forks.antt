@@ -15,8 +15,7 @@ is_branch instr = false
 
 -- a branch, and what is known where it is taken, and where it isn't
 pub data Fork : ℕ → Claim → Also → Claim → Also → Claim → Also → Type 0 where
-  either : {op : ℕ} {c : Claim} {e : Also} → is_branch (decoded opcodes op) ≡ true
-      → Fork op c e c e c e
+  either : {op : ℕ} {c : Claim} {e : Also} → is_branch (decoded opcodes op) ≡ true → Fork op c e c e c e
   -- BMI: the phase is one of writing
   busy_a : Fork 0x30 Ready (Says A) Aims Nothing Ready Nothing
   busy_x : Fork 0x30 Ready (Says X) Aims Nothing Ready (Under 0)
@@ -38,48 +37,33 @@ pub record Forked (cpu new : Cpu) (taken : Claim) (one : Also) (passed : Claim)
       ⊎ ((new.pc ≡ cpu.pc + 2) × HoldsIn passed cpu.mem × MeansIn two new)
 
 module _ (cpu : Cpu) where
-  branched : (op : ℕ) (c : Claim) (e : Also) (instr : Instr) → is_branch instr ≡ true
-      → HoldsIn c cpu.mem
+  branched : (op : ℕ) (c : Claim) (e : Also) (instr : Instr) → is_branch instr ≡ true → HoldsIn c cpu.mem
       → MeansIn e cpu → Forked cpu (does instr cpu) c e c e
   branched op c e (Branch flag when) is holds means = by (is_so when (of_flag flag cpu)) refl
     where
-      by : (t : Bool) → is_so when (of_flag flag cpu) ≡ t
-          → Forked cpu (does (Branch flag when) cpu) c e c e
+      by : (t : Bool) → is_so when (of_flag flag cpu) ≡ t → Forked cpu (does (Branch flag when) cpu) c e c e
       by true so = record {
         s = refl;
         mem = refl;
-        goes = inl (
-          ap (λ (t : Bool). if t then target cpu.pc
-              (cpu.mem (cpu.pc + 1)) else cpu.pc + 2) so,
-          holds,
-          means,
-        );
+        goes = inl (ap (λ (t : Bool). if t then target cpu.pc (cpu.mem (cpu.pc + 1)) else cpu.pc + 2) so, holds, means);
       }
       by false so = record {
         s = refl;
         mem = refl;
-        goes = inr (
-          ap (λ (t : Bool). if t then target cpu.pc
-              (cpu.mem (cpu.pc + 1)) else cpu.pc + 2) so,
-          holds,
-          means,
-        );
+        goes = inr (ap (λ (t : Bool). if t then target cpu.pc (cpu.mem (cpu.pc + 1)) else cpu.pc + 2) so, holds, means);
       }
   branched op c e instr is holds means = absurd (cc)
 
   -- by whether a flag is set
-  by_flag : (instr : Instr) (taken : Bool) (c : Claim) (e : Also) (d : Claim) (f : Also)
-      → (does instr cpu).s ≡ cpu.s
+  by_flag : (instr : Instr) (taken : Bool) (c : Claim) (e : Also) (d : Claim) (f : Also) → (does instr cpu).s ≡ cpu.s
       → (does instr cpu).mem ≡ cpu.mem
       → (does instr cpu).pc ≡ (if taken then target cpu.pc (cpu.mem (cpu.pc + 1)) else cpu.pc + 2)
       → (taken ≡ true → HoldsIn c cpu.mem × MeansIn e (does instr cpu))
-      → (taken ≡ false → HoldsIn d cpu.mem × MeansIn f (does instr cpu))
-      → Forked cpu (does instr cpu) c e d f
+      → (taken ≡ false → HoldsIn d cpu.mem × MeansIn f (does instr cpu)) → Forked cpu (does instr cpu) c e d f
   by_flag instr taken c e d f s mem pc there here =
       record { s = s; mem = mem; goes = by taken refl }
     where
-      by : (t : Bool) → taken ≡ t
-          → (((does instr cpu).pc ≡ target cpu.pc (cpu.mem (cpu.pc + 1))) × HoldsIn c cpu.mem
+      by : (t : Bool) → taken ≡ t → (((does instr cpu).pc ≡ target cpu.pc (cpu.mem (cpu.pc + 1))) × HoldsIn c cpu.mem
           × MeansIn e (does instr cpu))
           ⊎ (((does instr cpu).pc ≡ cpu.pc + 2) × HoldsIn d cpu.mem × MeansIn f (does instr cpu))
       by true is = inl (
@@ -104,11 +88,9 @@ module _ (cpu : Cpu) where
   unset : (b : ℕ) → nat_le 128 b ≡ false → b < 128
   unset b is = let none = leb-false 128 b is in omega (arith, none)
 
-  pub forked : {op : ℕ} {c : Claim} {e : Also} {d : Claim} {f : Also} {g : Claim} {h : Also}
-      → Fork op c e d f g h
+  pub forked : {op : ℕ} {c : Claim} {e : Also} {d : Claim} {f : Also} {g : Claim} {h : Also} → Fork op c e d f g h
       → HoldsIn c cpu.mem → MeansIn e cpu → Forked cpu (does (decoded opcodes op) cpu) d f g h
-  forked {op = op} {c = c} {e = e} (either is) =
-      λ holds means. branched op c e (decoded opcodes op) is holds means
+  forked {op = op} {c = c} {e = e} (either is) = λ holds means. branched op c e (decoded opcodes op) is holds means
   forked busy_a = λ holds means. by_flag
       (Branch Negative true) cpu.n Aims Nothing Ready Nothing refl refl refl
       (λ is. (
@@ -126,15 +108,7 @@ module _ (cpu : Cpu) where
             means.0 in omega (arith, high, e)) holds,
         tt,
       ))
-      (λ is. (
-        holds,
-        (
-          (let e = means.0 in omega (arith, e)),
-          unset cpu.x
-              (sym means.2 ∙ is),
-          means.1,
-        ),
-      ))
+      (λ is. (holds, ((let e = means.0 in omega (arith, e)), unset cpu.x (sym means.2 ∙ is), means.1)))
   forked {c = c} {e = Under k} (none less) =
       λ holds means. by_flag (Branch Zero true) cpu.z Low Nothing c (Over k)
       refl refl refl (λ is. (low k (leb-true (suc k) 6 less) means (sym means.2 ∙ is), tt))
@@ -142,8 +116,7 @@ module _ (cpu : Cpu) where
     where
       low : (k : ℕ) → k < 6 → (cpu.mem 0x10 ≡ cpu.x + k) × (cpu.x < 128) × (cpu.z ≡ nat_eq cpu.x 0)
           → nat_eq cpu.x 0 ≡ true → cpu.mem 0x10 < 6
-      low k few means is = let e = eqb-true cpu.x 0 is in let same =
-          means.0 in omega (arith, e, same)
+      low k few means is = let e = eqb-true cpu.x 0 is in let same = means.0 in omega (arith, e, same)
 
       some : nat_eq cpu.x 0 ≡ false → 1 ≤ cpu.x
       some is = let apart = eqb-false cpu.x 0 is in omega (arith, apart)
@@ -171,8 +144,7 @@ module _ (cpu : Cpu) where
       (λ is. (holds, tt))
     where
       positive : not cpu.n ≡ true → cpu.n ≡ nat_le 128 cpu.x → nat_le 128 cpu.x ≡ false
-      positive is same = let e : not (nat_le 128 cpu.x) ≡ true = ap not (sym same)
-          ∙ is in not-true (nat_le 128 cpu.x) e
+      positive is same = let e : not (nat_le 128 cpu.x) ≡ true = ap not (sym same) ∙ is in not-true (nat_le 128 cpu.x) e
 
       up : (cpu.x ≡ 254) ⊎ (cpu.x ≡ 0) → nat_le 128 cpu.x ≡ false → (cpu.x ≡ 0) ⊎ (cpu.x ≡ 2)
       up (inl is) low = absurd (let less = unset cpu.x low in omega (arith, is, less))
@@ -200,8 +172,7 @@ weakened low_sized mem holds = let less : mem 0x10 < 6 = holds in (omega arith, 
 weakened sized_ready mem holds = holds.1
 weakened aims_ready mem holds = inr holds
 weakened inside_aims mem holds = (holds.0, holds.1, (let less = holds.2 in omega (arith, less)))
-weakened inside_ready mem holds =
-    inr (holds.0, holds.1, (let less = holds.2 in omega (arith, less)))
+weakened inside_ready mem holds = inr (holds.0, holds.1, (let less = holds.2 in omega (arith, less)))
 
 pub dropped : {e f : Also} → Drops e f → (cpu : Cpu) → MeansIn e cpu → MeansIn f cpu
 dropped as_is cpu means = means
@@ -210,22 +181,13 @@ dropped {e = Is Y k} (small few) cpu means =
     let less = leb-true (suc k) 256 few in subst (λ (j : ℕ). j < 256) (sym means) less
 
 -- where more than nothing is known, it is so on both ways, and where less is said
-pub fork_known : {op : ℕ} {c : Claim} {e : Also} {d : Claim} {f : Also} {g : Claim} {h : Also}
-    → Fork op c e d f g h
+pub fork_known : {op : ℕ} {c : Claim} {e : Also} {d : Claim} {f : Also} {g : Claim} {h : Also} → Fork op c e d f g h
     → is_known c ≡ true → (is_known d ≡ true) × (is_known g ≡ true)
 fork_known (either a) is = (is, is)
-fork_known busy_a is = (refl, refl)
-fork_known busy_x is = (refl, refl)
 fork_known (none a) is = (refl, is)
-fork_known idle is = (refl, refl)
-fork_known building is = (refl, refl)
 fork_known plus is = (is, is)
+fork_known _ is = (refl, refl)
 
 pub weaker_known : {c d : Claim} → Weaker c d → is_known c ≡ true → is_known d ≡ true
 weaker_known same is = is
-weaker_known low_ready is = refl
-weaker_known low_sized is = refl
-weaker_known sized_ready is = refl
-weaker_known aims_ready is = refl
-weaker_known inside_aims is = refl
-weaker_known inside_ready is = refl
+weaker_known _ is = refl

@@ -76,8 +76,7 @@ needed_too b is = by (either (is_own b) (is_ram b) is)
 -- what a memory leaves that is needed between calls
 pub rested_on : (R : List ℕ) (calls : List Call) (mem now : ℕ → ℕ)
     → ((b : ℕ) → (is_own b || is_ram b) ≡ true → now b ≡ mem b)
-    → ((b : ℕ) → (bounds calls).0 ≤ b → b < (bounds calls).1 → now b ≡ mem b)
-    → Rested R calls mem → Rested R calls now
+    → ((b : ℕ) → (bounds calls).0 ≤ b → b < (bounds calls).1 → now b ≡ mem b) → Rested R calls mem → Rested R calls now
 rested_on R [] mem now own table rested = absurd rested
 rested_on R (older ∷ calls) mem now own table rested = (
   rested.0,

@@ -85,10 +85,7 @@ kept tables rom b is = one (either (is_own b) _ is)
 
 -- a byte of the stack above it is
 pub stack_spared : (now b k : ℕ) → now < k → k ≤ 255 → b ≡ 0x100 + k → IsSpared now b
-stack_spared now b k more few same = record {
-  bound = bound b apart;
-  above = inr (omega (arith, more, few, same));
-}
+stack_spared now b k more few same = record { bound = bound b apart; above = inr (omega (arith, more, few, same)) }
   where
     apart : Free b → ⊥
     apart (inl less) = omega (arith, less, same)

@@ -83,8 +83,7 @@ near_left [] near = tt
 near_left (write ∷ writes) near = near
 
 -- an item that may come leads to such a place, and is in the vector RAM
-near_next : (place : Place) (item : Item) (new : Place) → next_place place item ≡ Some new
-    → Fits item → IsNear place
+near_next : (place : Place) (item : Item) (new : Place) → next_place place item ≡ Some new → Fits item → IsNear place
     → IsNear new × InRam item
 near_next Start (Did Peek) new is fits near = (subst IsNear (some_same is) tt, tt)
 near_next Booting (Did (Read true)) new is fits near = (subst IsNear (some_same is) tt, tt)
@@ -97,8 +96,7 @@ near_next (Writing []) (Did (Wrote a byte)) new is fits near = absurd (cc)
 near_next (Writing (write ∷ writes)) (Did (Wrote a byte)) new is fits near =
     by (nat_eq write.0 a) (nat_eq write.1 byte) refl is
   where
-    by : (t u : Bool) → nat_eq write.0 a ≡ t
-        → (if t && u then Some (with_left writes) else None) ≡ Some new
+    by : (t u : Bool) → nat_eq write.0 a ≡ t → (if t && u then Some (with_left writes) else None) ≡ Some new
         → IsNear new × (a < 0x800)
     by true true same is = (
       subst IsNear (some_same is) (near_left writes near.1),
@@ -136,8 +134,7 @@ fit_shown (Did action ∷ items) (access ∷ log) shown = (tt, fit_shown items l
 fit_shown (Offered half F ∷ items) log shown = absurd shown
 fit_shown (Asked ∷ items) log shown = absurd shown
 
-fit_taken : (half : Half) (F : List OpKind) (taken : Bool) (items : List Item)
-    → length (table_of F) ≤ 1022
+fit_taken : (half : Half) (F : List OpKind) (taken : Bool) (items : List Item) → length (table_of F) ≤ 1022
     → items ≡ (if taken then Offered half F ∷ [] else []) → AllFit items
 fit_taken half F true items fits is = subst AllFit (sym is) (fits, tt)
 fit_taken half F false items fits is = subst AllFit (sym is) tt
@@ -145,9 +142,6 @@ fit_taken half F false items fits is = subst AllFit (sym is) tt
 fit_new : (routine : Routine) (call : Call) (calls : List Call) (items : List Item)
     → c.Brings routine call.from (c.frame_of calls) → Adds routine call items → AllFit items
 fit_new c.Reset call calls items brings adds = subst AllFit (sym adds.1) tt
-fit_new c.Tick call calls items brings adds = fit_shown items (seen (after call).log) adds
-fit_new c.Ticks call calls items brings adds = fit_shown items (seen (after call).log) adds
-fit_new c.Run call calls items brings adds = fit_shown items (seen (after call).log) adds
 fit_new (c.Offer F) call calls items brings adds =
     fit_taken (other (half_of_high (call.from.mem byte1_place))) F
     (is_taken call) items brings.fits adds.1
@@ -159,26 +153,16 @@ fit_new c.Redraw call calls items brings adds = asked (is_taken call) adds.1
 fit_new (c.Open F) call calls items brings adds =
     fit_taken (other (half_of_high (call.from.mem byte1_place))) F
     (is_taken call) items brings.fits adds.1
-fit_new (c.Puts part) call calls items brings adds = fit_shown items (seen (after call).log) adds
-fit_new c.Close call calls items brings adds = fit_shown items (seen (after call).log) adds
+fit_new _ call calls items brings adds = fit_shown items (seen (after call).log) adds
 
 -- since a reset, or after the calls before
-since : (routine : Routine) (old : List Item) (P Q : Type 0) → (P → Q → AllFit old)
-    → c.SinceReset routine old P
+since : (routine : Routine) (old : List Item) (P Q : Type 0) → (P → Q → AllFit old) → c.SinceReset routine old P
     → c.UnlessReset routine Q → AllFit old
 since c.Reset old P Q go is unless = subst AllFit (sym is) tt
-since c.Tick old P Q go is unless = go is unless
-since c.Ticks old P Q go is unless = go is unless
-since c.Run old P Q go is unless = go is unless
-since (c.Offer F) old P Q go is unless = go is unless
-since c.Redraw old P Q go is unless = go is unless
-since (c.Open F) old P Q go is unless = go is unless
-since (c.Puts part) old P Q go is unless = go is unless
-since c.Close old P Q go is unless = go is unless
+since _ old P Q go is unless = go is unless
 
 -- the frames of a session's life fit
-fit_life : (calls : List Call) (life : List Item) → IsSession calls → IsLifeOf calls life
-    → AllFit life
+fit_life : (calls : List Call) (life : List Item) → IsSession calls → IsLifeOf calls life → AllFit life
 fit_life [] life session is = absurd is
 fit_life (call ∷ calls) life session is =
     subst AllFit (sym is.2) (fit_both is.0 is.1
@@ -215,27 +199,22 @@ shown_hard (Did Peek) items a byte log shown near =
 shown_hard (Did (Read halted)) items a byte log shown near =
     absurd (let e = head_same (Writes a byte) (Reads 0x2002 shown.0.0) shown.0.1 in cc)
 shown_hard (Did Idle) items a byte log shown near = absurd (let e = shown.0 in cc)
-shown_hard (Offered half F) items a byte log shown near = absurd shown
-shown_hard Asked items a byte log shown near = absurd shown
+shown_hard _ items a byte log shown near = absurd shown
 
 shown_rest : (item : Item) (items : List Item) (access : Access) (log : List Access)
     → AreShown (item ∷ items) (access ∷ log) → AreShown items log
 shown_rest (Did action) items access log shown = shown.1
-shown_rest (Offered half F) items access log shown = absurd shown
-shown_rest Asked items access log shown = absurd shown
+shown_rest _ items access log shown = absurd shown
 
-hard_log : (log : List Access) (items : List Item) → AreShown items (seen log) → AllInRam items
-    → AreHard log
+hard_log : (log : List Access) (items : List Item) → AreShown items (seen log) → AllInRam items → AreHard log
 hard_log [] items shown near = tt
 hard_log (Reads a byte ∷ log) items shown near = by (is_hardware a) items shown near (hard_log log)
   where
-    by : (t : Bool) (items : List Item)
-        → AreShown items (if t then Reads a byte ∷ seen log else seen log)
+    by : (t : Bool) (items : List Item) → AreShown items (if t then Reads a byte ∷ seen log else seen log)
         → AllInRam items → ((items : List Item) → AreShown items (seen log) → AllInRam items
         → AreHard log) → AreHard log
     by true [] shown near rest = absurd shown
-    by true (item ∷ items) shown near rest =
-        rest items (shown_rest item items (Reads a byte) (seen log) shown) near.1
+    by true (item ∷ items) shown near rest = rest items (shown_rest item items (Reads a byte) (seen log) shown) near.1
     by false items shown near rest = rest items shown near
 hard_log (Writes a byte ∷ log) items shown near =
     by (nat_le 0x200 a) refl items shown near (hard_log log)
@@ -249,25 +228,19 @@ hard_log (Writes a byte ∷ log) items shown near =
       (λ far. shown_hard item items a byte (seen log) shown near.0),
       rest items (shown_rest item items (Writes a byte) (seen log) shown) near.1,
     )
-    by false is items shown near rest =
-        ((λ far. absurd (let e = sym is ∙ far in cc)), rest items shown near)
+    by false is items shown near rest = ((λ far. absurd (let e = sym is ∙ far in cc)), rest items shown near)
 
 -- a call that touches no hardware
 hard_none : (log : List Access) → seen log ≡ [] → AreHard log
 hard_none log none = hard_log log [] (subst (λ l. AreShown [] l) (sym none) tt) tt
 
-hard_adds : (routine : Routine) (call : Call) (items : List Item) → Adds routine call items
-    → AllInRam items
+hard_adds : (routine : Routine) (call : Call) (items : List Item) → Adds routine call items → AllInRam items
     → AreHard (after call).log
 hard_adds c.Reset call items adds near = hard_none (after call).log adds.0
-hard_adds c.Tick call items adds near = hard_log (after call).log items adds near
-hard_adds c.Ticks call items adds near = hard_log (after call).log items adds near
-hard_adds c.Run call items adds near = hard_log (after call).log items adds near
 hard_adds (c.Offer F) call items adds near = hard_none (after call).log adds.0
 hard_adds c.Redraw call items adds near = hard_none (after call).log adds.0
 hard_adds (c.Open F) call items adds near = hard_none (after call).log adds.0
-hard_adds (c.Puts part) call items adds near = hard_log (after call).log items adds near
-hard_adds c.Close call items adds near = hard_log (after call).log items adds near
+hard_adds _ call items adds near = hard_log (after call).log items adds near
 
 hard_of : (call : Call) (calls : List Call) → IsSession (call ∷ calls) → AreHard (after call).log
 hard_of call calls session =
@@ -279,14 +252,12 @@ hard_of call calls session =
     hard_adds call.routine call is.0 is.3 (ram_first is.0 is.1 (subst AllInRam is.2 near.1))
 
 -- so is what a program's calls write
-pub hard_session : (R : List ℕ) (call : Call) (calls : List Call)
-    → IsSessionBy (Tells R) (call ∷ calls)
+pub hard_session : (R : List ℕ) (call : Call) (calls : List Call) → IsSessionBy (Tells R) (call ∷ calls)
     → AreHard (after call).log
 hard_session R call calls session = let named =
     hindsight R (call ∷ calls) session in by named.0 named.1
   where
-    by : (drafts : List (List OpKind)) → IsSession (with_drafts (call ∷ calls) drafts)
-        → AreHard (after call).log
+    by : (drafts : List (List OpKind)) → IsSession (with_drafts (call ∷ calls) drafts) → AreHard (after call).log
     by [] session = hard_of call calls session
     by (G ∷ drafts) session = hard_of (record call { routine = renamed call.routine G })
         (with_drafts calls drafts) session

@@ -25,12 +25,8 @@ use Rattle.dvg_game_6502.proofs.Rules.{aside, kept, left, spared, stores_aside}
 
 -- up to 4, with bit 6 set
 in_page : (a : ℕ) → a ≤ 4 → (0x40 ≤ bit_or a 0x40) × (bit_or a 0x40 < 0x48)
-in_page zero low = (omega arith, omega arith)
-in_page (suc zero) low = (omega arith, omega arith)
-in_page (suc (suc zero)) low = (omega arith, omega arith)
-in_page (suc (suc (suc zero))) low = (omega arith, omega arith)
-in_page (suc (suc (suc (suc zero)))) low = (omega arith, omega arith)
 in_page (suc (suc (suc (suc (suc a))))) low = absurd (omega arith)
+in_page _ low = (omega arith, omega arith)
 
 -- an address of the hardware from 4000 on is one of the vector RAM
 ram_below : (b : ℕ) → 0x4000 ≤ b → is_hardware b ≡ true → b < 0x4800
@@ -55,13 +51,11 @@ module _ (cpu : Cpu) (place : cpu.mem 0x13 < 256) where
         s = q.goes.s;
         place = subst (λ (m : ℕ → ℕ). m 0x13 < 256) (sym q.mem) place;
         claim = subst (λ (m : ℕ → ℕ). HoldsIn c m) (sym q.mem) holds;
-        also = left (decoded opcodes op) e cpu
-            (does (decoded opcodes op) cpu) leaves_it q.goes means;
+        also = left (decoded opcodes op) e cpu (does (decoded opcodes op) cpu) leaves_it q.goes means;
         spares = λ b off. ap (λ (m : ℕ → ℕ). m b) q.mem;
       }
 
-  by_side : (op low high : ℕ) (c : Claim) (e : Also) → is_storing (decoded opcodes op) ≡ true
-      → aside low ≡ true
+  by_side : (op low high : ℕ) (c : Claim) (e : Also) → is_storing (decoded opcodes op) ≡ true → aside low ≡ true
       → leaves (decoded opcodes op) e ≡ true → Known op low high c e c e
   by_side op low high c e is apart leaves_it l h holds means hard =
       let q = stored (decoded opcodes op) cpu is in
@@ -80,15 +74,13 @@ module _ (cpu : Cpu) (place : cpu.mem 0x13 < 256) where
       ∙ ap (λ z. put (low + 256 * z) cpu.a cpu.mem) h) apart
 
   axis_place : (low : ℕ) → aside ((low + 0) % 256) ≡ true → aside ((low + 2) % 256) ≡ true
-      → (cpu.x ≡ 0) ⊎ (cpu.x ≡ 2) → cpu.mem (cpu.pc + 1) ≡ low
-      → aside ((cpu.mem (cpu.pc + 1) + cpu.x) % 256) ≡ true
+      → (cpu.x ≡ 0) ⊎ (cpu.x ≡ 2) → cpu.mem (cpu.pc + 1) ≡ low → aside ((cpu.mem (cpu.pc + 1) + cpu.x) % 256) ≡ true
   axis_place low first second (inl is) l = ap (λ z. aside ((z + cpu.x) % 256)) l
       ∙ ap (λ z. aside ((low + z) % 256)) is ∙ first
   axis_place low first second (inr is) l = ap (λ z. aside ((z + cpu.x) % 256)) l
       ∙ ap (λ z. aside ((low + z) % 256)) is ∙ second
 
-  axis_sta : (low high : ℕ) (c : Claim) → aside ((low + 0) % 256) ≡ true
-      → aside ((low + 2) % 256) ≡ true
+  axis_sta : (low high : ℕ) (c : Claim) → aside ((low + 0) % 256) ≡ true → aside ((low + 2) % 256) ≡ true
       → Known 0x95 low high c Even c Even
   axis_sta low high c first second l h holds means hard =
       stores_aside (Store A ZeroPageX) c Even cpu (does (Store A ZeroPageX) cpu)
@@ -98,8 +90,7 @@ module _ (cpu : Cpu) (place : cpu.mem 0x13 < 256) where
       refl
       (axis_place low first second means l)
 
-  axis_dec : (low high : ℕ) (c : Claim) → aside ((low + 0) % 256) ≡ true
-      → aside ((low + 2) % 256) ≡ true
+  axis_dec : (low high : ℕ) (c : Claim) → aside ((low + 0) % 256) ≡ true → aside ((low + 2) % 256) ≡ true
       → Known 0xD6 low high c Even c Even
   axis_dec low high c first second l h holds means hard =
       stores_aside (Change ZeroPageX 255) c Even cpu (does (Change ZeroPageX 255) cpu)
@@ -125,8 +116,7 @@ module _ (cpu : Cpu) (place : cpu.mem 0x13 < 256) where
   -- and one that stores one of the driver's bytes
   stores_own : (instr : Instr) (c : Claim) (e : Also) (z v : ℕ) → Goes instr cpu (does instr cpu)
       → (does instr cpu).mem ≡ put z v cpu.mem → is_touched z ≡ true → put z v cpu.mem 0x13 < 256
-      → HoldsIn c (put z v cpu.mem) → MeansIn e (does instr cpu)
-      → Did (length_of instr) cpu (does instr cpu) c e
+      → HoldsIn c (put z v cpu.mem) → MeansIn e (does instr cpu) → Did (length_of instr) cpu (does instr cpu) c e
   stores_own instr c e z v goes mem touched small holds means = record {
     pc = goes.pc;
     s = goes.s;
@@ -148,12 +138,10 @@ module _ (cpu : Cpu) (place : cpu.mem 0x13 < 256) where
   goal_is low above under small = (omega arith, omega arith)
 
   unmoved : (b : ℕ) → b < 0x100 → 0x4000 ≤ goal → put goal cpu.a cpu.mem b ≡ cpu.mem b
-  unmoved b less high = kept goal cpu.a cpu.mem b
-      (ne_eqb b goal (λ same. absurd (omega (arith, same, less, high))))
+  unmoved b less high = kept goal cpu.a cpu.mem b (ne_eqb b goal (λ same. absurd (omega (arith, same, less, high))))
 
   store_it : cpu.mem (cpu.pc + 1) ≡ 0x14 → Points 1 (cpu.mem 0x14) (cpu.mem 0x15) → cpu.y < 256
-      → AreHard (does (Store A IndirectIndexed) cpu).log
-      → Did 2 cpu (does (Store A IndirectIndexed) cpu) Inside Small
+      → AreHard (does (Store A IndirectIndexed) cpu).log → Did 2 cpu (does (Store A IndirectIndexed) cpu) Inside Small
   store_it l holds small hard =
       let two = goal_is holds.0 holds.1 holds.2 small in
       let high : 0x4000 ≤ goal = two.1 in
@@ -168,8 +156,7 @@ module _ (cpu : Cpu) (place : cpu.mem 0x13 < 256) where
       (subst (λ (j : ℕ). j < 256) (sym (unmoved 0x13 (omega arith) high)) place) (
         unmoved 0x14 (omega arith) high ∙ holds.0,
         subst (λ (j : ℕ). 0x40 ≤ j) (sym (unmoved 0x15 (omega arith) high)) holds.1,
-        subst (λ (j : ℕ). j < 0x48) (sym (unmoved 0x15 (omega arith) high))
-            (page_below two.0 below),
+        subst (λ (j : ℕ). j < 0x48) (sym (unmoved 0x15 (omega arith) high)) (page_below two.0 below),
       ) small
     where
       touched : (t u v : Bool) → v ≡ true → (t || (u || v)) ≡ true
@@ -186,16 +173,12 @@ module _ (cpu : Cpu) (place : cpu.mem 0x13 < 256) where
       quietly op low high c e is leaves_it
   known {op = op} {low = low} {high = high} {now = c} {e = e} (beside is apart leaves_it) =
       by_side op low high c e is apart leaves_it
-  known {low = low} {high = high} {now = c} {e = e} (far apart leaves_it) =
-      far_away low high c e apart leaves_it
+  known {low = low} {high = high} {now = c} {e = e} (far apart leaves_it) = far_away low high c e apart leaves_it
   known {low = low} {high = high} {now = c} (axis first second) = axis_sta low high c first second
-  known {low = low} {high = high} {now = c} (axis_down first second) =
-      axis_dec low high c first second
-  known {low = k} {now = c} lda =
-      λ l h holds means hard. sets_it (Load A Immediate) c (Is A k) refl holds l
+  known {low = low} {high = high} {now = c} (axis_down first second) = axis_dec low high c first second
+  known {low = k} {now = c} lda = λ l h holds means hard. sets_it (Load A Immediate) c (Is A k) refl holds l
   known {now = c} ldx = λ l h holds means hard. sets_it (Load X Immediate) c Even refl holds (inr l)
-  known {low = k} {now = c} ldy =
-      λ l h holds means hard. sets_it (Load Y Immediate) c (Is Y k) refl holds l
+  known {low = k} {now = c} ldy = λ l h holds means hard. sets_it (Load Y Immediate) c (Is Y k) refl holds l
   known {now = c} lda_phase =
       λ l h holds means hard. sets_it (Load A ZeroPage) c (Says A) refl holds
       (sym (ap (λ z. found z cpu) l), refl, refl)
@@ -229,13 +212,11 @@ module _ (cpu : Cpu) (place : cpu.mem 0x13 < 256) where
           → cpu.mem 0x10 ≡ (cpu.x + 255) % 256 + suc k
       down k three = let a = three.0 in let b = three.1 in let d = three.2 in omega (arith, a, b, d)
 
-      small : (k : ℕ) → (cpu.mem 0x10 ≡ cpu.x + k) × (cpu.x < 128) × (1 ≤ cpu.x)
-          → (cpu.x + 255) % 256 < 128
+      small : (k : ℕ) → (cpu.mem 0x10 ≡ cpu.x + k) × (cpu.x < 128) × (1 ≤ cpu.x) → (cpu.x + 255) % 256 < 128
       small k three = let b = three.1 in let d = three.2 in omega (arith, b, d)
   known {now = c} mask = λ l h holds means hard. sets_it (And Immediate) c (UpTo 2) refl holds
       (subst (λ (k : ℕ). bit_and cpu.a k ≤ 2) (sym l) (and_le_r cpu.a 2))
-  known {now = c} double = λ l h holds means hard. sets_it (ShiftA Left) c (UpTo 4) refl holds
-      (omega arith)
+  known {now = c} double = λ l h holds means hard. sets_it (ShiftA Left) c (UpTo 4) refl holds (omega arith)
   known {now = c} page = λ l h holds means hard. sets_it (Or Immediate) c Page refl holds
       (subst (λ (k : ℕ). (0x40 ≤ bit_or cpu.a k) × (bit_or cpu.a k < 0x48)) (sym l)
       (in_page cpu.a means))

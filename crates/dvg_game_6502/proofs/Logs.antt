@@ -40,24 +40,15 @@ module _ (cpu : Cpu) where
 
   same_address : (mode : Mode) → address mode cpu ≡ address mode (forgetful cpu)
   same_address Immediate = refl
-  same_address ZeroPage = refl
-  same_address ZeroPageX = refl
-  same_address ZeroPageY = refl
-  same_address Absolute = refl
-  same_address AbsoluteX = refl
-  same_address AbsoluteY = refl
-  same_address IndexedIndirect = refl
-  same_address IndirectIndexed = refl
+  same_address _ = refl
 
   same_register : (r : Register) → of_register r cpu ≡ of_register r (forgetful cpu)
   same_register A = refl
-  same_register X = refl
-  same_register Y = refl
+  same_register _ = refl
 
   set_same : (r : Register) (v : ℕ) (k : Cpu) → setting r v (upon cpu.log k) ≡ upon cpu.log (setting r v k)
   set_same A v k = refl
-  set_same X v k = refl
-  set_same Y v k = refl
+  set_same _ v k = refl
 
   stored : (r : Register) (mode : Mode) → Passes (Store r mode)
   stored r mode = ap (λ a. next (size mode) (writing a (of_register r cpu) cpu)) (same_address mode)
@@ -75,24 +66,15 @@ module _ (cpu : Cpu) where
 
   stepped : (r : Register) (by : ℕ) → Passes (Step r by)
   stepped A by = refl
-  stepped X by = refl
-  stepped Y by = refl
+  stepped _ by = refl
 
   flagged : (flag : Flag) (to : Bool) → Passes (Set flag to)
   flagged Negative to = refl
-  flagged Zero to = refl
-  flagged Carry to = refl
-  flagged Overflow to = refl
-  flagged Decimal to = refl
-  flagged Interrupt to = refl
+  flagged _ to = refl
 
   branched : (flag : Flag) (when : Bool) → Passes (Branch flag when)
   branched Negative when = refl
-  branched Zero when = refl
-  branched Carry when = refl
-  branched Overflow when = refl
-  branched Decimal when = refl
-  branched Interrupt when = refl
+  branched _ when = refl
 
   change : (mode : Mode) (by : ℕ) → Passes (Change mode by)
   change mode by =
@@ -124,22 +106,9 @@ module _ (cpu : Cpu) where
   passes (Change mode by) = change mode by
   passes (Step r by) = stepped r by
   passes (ShiftAt shift mode) = shift_at shift mode
-  passes (ShiftA shift) = refl
   passes (Set flag to) = flagged flag to
   passes (Branch flag when) = branched flag when
-  passes Jump = refl
-  passes JumpAt = refl
-  passes Call = refl
-  passes Return = refl
-  passes PushA = refl
-  passes PushFlags = refl
-  passes PullA = refl
-  passes PullFlags = refl
-  passes FromStack = refl
-  passes ToStack = refl
-  passes Resume = refl
-  passes Pass = refl
-  passes Unknown = refl
+  passes _ = refl
 
 -- a step adds to the log, and rests on nothing in it
 pub log_is_passive : (cpu : Cpu) → step cpu ≡ upon cpu.log (step (forgetful cpu))

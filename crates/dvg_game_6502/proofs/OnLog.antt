@@ -60,8 +60,7 @@ on_log R = record {
         ∙ sym makes,
   );
   passes = λ routine s calls cpu mine log m spares amid. (
-    nmi_passes R routine s calls cpu mine m amid.0
-        spares,
+    nmi_passes R routine s calls cpu mine m amid.0 spares,
     amid.1,
   );
   refreshes = λ routine s calls cpu mine log flags amid. ((λ future. refreshed (amid.0 future) flags), amid.1);
@@ -75,8 +74,7 @@ module _ (R : List ℕ) (rom : ℕ → ℕ) (start : ℕ) (game : IsAccepted rom
       → Stage R (on_log R) rom start cpu since log
   stage (begins cpu since is) = inl (game_begins R (on_log R) rom start cpu since [] [] (refl, inl refl)
       (λ b low high. absurd (omega (arith, high))) is)
-  stage (does flags play go small) =
-      stage_does R (on_log R) game brought _ _ flags play go small refl (stage play)
+  stage (does flags play go small) = stage_does R (on_log R) game brought _ _ flags play go small refl (stage play)
   stage (nmi play late) = stage_nmi R (on_log R) game _ late (stage play)
   stage (turns {cpu} {since} {log} mem play small same) =
       stage_turns R (on_log R) rom start cpu since log mem small same (stage play)

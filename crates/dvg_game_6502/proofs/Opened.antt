@@ -21,8 +21,7 @@ use Rattle.dvg_game_6502.proofs.Logs.{log_is_passive, upon}
 use Rattle.dvg_game_6502.proofs.Sessions.{further, further_turns, session_begins, session_goes_on}
 
 -- the code is guarded
-pub code_guarded : (tables : ℕ → Bool) (s now b : ℕ) → is_code b ≡ true
-    → guards (is_kept tables) s now b ≡ true
+pub code_guarded : (tables : ℕ → Bool) (s now b : ℕ) → is_code b ≡ true → guards (is_kept tables) s now b ≡ true
 code_guarded tables s now b is = or_left (is_kept tables b) _ (code_kept tables b is)
 
 module _ {R : List ℕ} {routine : Routine} {s : ℕ} {calls : List calls_of.Call} {cpu : Cpu} {log : List Access}
@@ -105,14 +104,7 @@ module _ (R : List ℕ) (routine : Routine) (cpu : Cpu) (calls : List calls_of.C
   is_offered_same : (r : Routine) (t : Bool) (b : ℕ)
       → (t || is_offered r cpu b) ≡ (t || is_offered r (fresh flags cpu) b)
   is_offered_same calls_of.Reset t b = refl
-  is_offered_same calls_of.Tick t b = refl
-  is_offered_same calls_of.Ticks t b = refl
-  is_offered_same calls_of.Run t b = refl
-  is_offered_same (calls_of.Offer F) t b = refl
-  is_offered_same calls_of.Redraw t b = refl
-  is_offered_same (calls_of.Open F) t b = refl
-  is_offered_same (calls_of.Puts part) t b = refl
-  is_offered_same calls_of.Close t b = refl
+  is_offered_same _ t b = refl
 
   pub tables_in_rom : (b : ℕ) → is_table (call_of routine (fresh flags cpu) 0 (λ k b. 0)) calls b ≡ true → InRom b
   tables_in_rom b is = in_it (either taken (is_offered routine cpu b) (is_offered_same routine taken b ∙ is))
@@ -147,8 +139,7 @@ driver_steps R routine s calls cpu log flags inside not_there future =
     stepped (inside one.0) flags future one.1 not_there
 
 pub nmi_passes : NmiPasses
-nmi_passes R routine s calls cpu log m inside spares flags =
-    passed (inside flags) m spares
+nmi_passes R routine s calls cpu log m inside spares flags = passed (inside flags) m spares
 
 -- at its RTS it has returned
 pub has_come : (R : List ℕ) (routine : Routine) (s : ℕ) (calls : List calls_of.Call) (cpu : Cpu) (log : List Access)

@@ -30,8 +30,7 @@ use Rattle.dvg_game_6502.proofs.Stages.{InDriver, InGame, InNmi, IsAccepted, Sta
 abbrev pub Brought : (R : List ℕ) → Bearer R → (ℕ → ℕ) → ℕ → Type 0
 Brought R B rom start = (cpu : Cpu) (since : ℕ) (log : List Access) (w : B.World) → IsPlay rom start cpu since log
     → (g : InGame R B rom start cpu since w) → Play.restarts cpu ≡ false
-    → calling (kind_of (cpu.mem cpu.pc)) (of_cpu cpu g.st) ≡ true
-    → let to = word_at cpu.mem (cpu.pc + 1) in
+    → calling (kind_of (cpu.mem cpu.pc)) (of_cpu cpu g.st) ≡ true → let to = word_at cpu.mem (cpu.pc + 1) in
     (to ≡ dvg_offer → IsTable R rom cpu) × (to ≡ dvg_put → IsWord R cpu) × (to ≡ dvg_pair → ⊥)
 
 module _ (R : List ℕ) (B : Bearer R) {rom : ℕ → ℕ} {start : ℕ} (game : IsAccepted rom start)
@@ -134,8 +133,7 @@ module _ (R : List ℕ) (B : Bearer R) {rom : ℕ → ℕ} {start : ℕ} (game :
 
         in_driver : (d : InDriver R B rom start cpu w) → AreBytes (done flags cpu) → (t : Bool)
             → at_return d.s cpu ≡ t → After flags cpu since v
-        in_driver d bytes false is =
-            inr (inl (driver_step game d flags v is bytes (told d.place)))
+        in_driver d bytes false is = inr (inl (driver_step game d flags v is bytes (told d.place)))
         in_driver d bytes true is =
             let same = ret_is game d is since flags in
             subst (After flags cpu since) (B.nothing w v (subst (λ (k : Cpu). B.Makes (seen k.log) w v) same
@@ -163,5 +161,4 @@ module _ (R : List ℕ) (B : Bearer R) {rom : ℕ → ℕ} {start : ℕ} (game :
         → Stage R B rom start (interrupted cpu) 0 w
     stage_nmi {cpu} {since} w late (inl g) = inl (game_nmi game g late)
     stage_nmi {cpu} {since} w late (inr (inl d)) = inr (inr (driver_nmi game d))
-    stage_nmi {cpu} {since} w late (inr (inr n)) =
-        absurd (nmi_alone game n late)
+    stage_nmi {cpu} {since} w late (inr (inr n)) = absurd (nmi_alone game n late)

@@ -80,8 +80,7 @@ labs_put : (call : Call) (frame : Option (ℕ × List ℕ))
 labs_put call None taken = either_frame (is_taken call) None None tt tt
 labs_put call (Some frame) taken = by frame.0 refl
   where
-    by : (n : ℕ) → frame.0 ≡ n
-        → NotBlank (if is_taken call then Some (frame.0 + 4, drop 4 frame.1) else Some frame)
+    by : (n : ℕ) → frame.0 ≡ n → NotBlank (if is_taken call then Some (frame.0 + 4, drop 4 frame.1) else Some frame)
     by zero none = subst (λ (t : Bool). NotBlank (if t then Some (frame.0 + 4, drop 4 frame.1) else Some frame))
         (sym (taken frame.1 (ap (λ k. Some (k, frame.1)) none))) (omega arith)
     by (suc n) some = either_frame (is_taken call) (Some (frame.0 + 4, drop 4 frame.1)) (Some frame) (omega arith)
@@ -92,11 +91,6 @@ pub frame_on : (r : Routine) (call : Call) (frame : Option (ℕ × List ℕ)) (b
     → (r ≡ calls_of.Puts Labs → (rest : List ℕ) → frame ≡ Some (0, rest) → is_taken call ≡ true)
     → NotBlank (frame_after r call frame)
 frame_on calls_of.Reset call frame blank is old labs = tt
-frame_on calls_of.Tick call frame blank is old labs = old is
-frame_on calls_of.Ticks call frame blank is old labs = old is
-frame_on calls_of.Run call frame blank is old labs = old is
-frame_on (calls_of.Offer F) call frame blank is old labs = old is
-frame_on calls_of.Redraw call frame blank is old labs = old is
 frame_on (calls_of.Open F) call frame blank is old labs = absurd (cc)
 frame_on (calls_of.Puts Put) call frame blank is old labs = either_frame (is_taken call)
     (put_on (put_by Put call.from) frame) frame (puts_more (put_by Put call.from) frame (old is)) (old is)
@@ -106,6 +100,7 @@ frame_on (calls_of.Puts Labs) call frame blank is old labs = labs_put call frame
 frame_on (calls_of.Puts Vector) call frame blank is old labs = either_frame (is_taken call)
     (put_on (put_by Vector call.from) frame) frame (puts_more (put_by Vector call.from) frame (old is)) (old is)
 frame_on calls_of.Close call frame blank is old labs = either_frame (is_taken call) None frame tt (old is)
+frame_on _ call frame blank is old labs = old is
 
 -- what the call leaves that is guarded is where its bearer has it end, too
 pub ended_kept : (R : List ℕ) (routine : Routine) (s : ℕ) (calls : List Call) (cpu : Cpu) (mine : List Access)
@@ -131,12 +126,10 @@ module _ {R : List ℕ} {B : Bearer R} {rom : ℕ → ℕ} {start : ℕ} (game :
     {cpu : Cpu} {w : B.World} (d : InDriver R B rom start cpu w)
     (there : at_return d.s cpu ≡ true) (since : ℕ) (flags : ℕ → ℕ) where
   opcode : cpu.mem cpu.pc ≡ 0x60
-  opcode = eqb-true (cpu.mem cpu.pc) 0x60 (both_true (nat_eq (cpu.mem cpu.pc) 0x60)
-      (nat_eq cpu.s d.s) there).0
+  opcode = eqb-true (cpu.mem cpu.pc) 0x60 (both_true (nat_eq (cpu.mem cpu.pc) 0x60) (nat_eq cpu.s d.s) there).0
 
   level : cpu.s ≡ d.s
-  level = eqb-true cpu.s d.s (both_true (nat_eq (cpu.mem cpu.pc) 0x60)
-      (nat_eq cpu.s d.s) there).1
+  level = eqb-true cpu.s d.s (both_true (nat_eq (cpu.mem cpu.pc) 0x60) (nat_eq cpu.s d.s) there).1
 
   -- the processor after its RTS
   abbrev pub ret : Cpu

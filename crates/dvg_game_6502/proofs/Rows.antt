@@ -15,8 +15,7 @@ byte_at at = slice_index code (at - 0x6800)
 
 -- the address is noted, and what is known there serves its note
 pub data Serves (inner : Bool) (claim : Claim) (also : Also) (at : ℕ) : Type 0 where
-  to : {note : Note} → noted at ≡ Some note → (not inner || note.inner) ≡ true
-      → Weaker claim note.claim
+  to : {note : Note} → noted at ≡ Some note → (not inner || note.inner) ≡ true → Weaker claim note.claim
       → Drops also note.also → Serves inner claim also at
 
 pub data Row (at : ℕ) (note : Note) : Type 0 where
@@ -29,11 +28,9 @@ pub data Row (at : ℕ) (note : Note) : Type 0 where
       → Serves note.inner later also (at + length_of (decoded opcodes (byte_at at))) → Row at note
   forks : {taken : Claim} {one : Also} {passed : Claim} {two : Also} → nat_lt (at + 2) 0x6A87 ≡ true
       → Fork (byte_at at) note.claim note.also taken one passed two
-      → Serves note.inner taken one (target at (byte_at (at + 1)))
-      → Serves note.inner passed two (at + 2) → Row at note
+      → Serves note.inner taken one (target at (byte_at (at + 1))) → Serves note.inner passed two (at + 2) → Row at note
   jumps : nat_lt (at + 2) 0x6A87 ≡ true → byte_at at ≡ 0x4C
-      → Serves note.inner note.claim note.also (byte_at (at + 1) + 256 * byte_at (at + 2))
-      → Row at note
+      → Serves note.inner note.claim note.also (byte_at (at + 1) + 256 * byte_at (at + 2)) → Row at note
   calls : nat_lt (at + 2) 0x6A87 ≡ true → byte_at at ≡ 0x20 → note.inner ≡ false
       → Serves true note.claim Nothing (byte_at (at + 1) + 256 * byte_at (at + 2))
       → noted (at + 3) ≡ Some (outer Ready Nothing) → Row at note
@@ -53,17 +50,14 @@ pub some_same : {x y : Note} → Some x ≡ Some y → x ≡ y
 some_same is = cc
 
 -- the row of an address
-pub row_of : {table : List (ℕ × Note)} → Rows table → (at : ℕ) (note : Note)
-    → lookup table at ≡ Some note → Row at note
+pub row_of : {table : List (ℕ × Note)} → Rows table → (at : ℕ) (note : Note) → lookup table at ≡ Some note → Row at note
 row_of ends at note is = absurd (cc)
 row_of {table = here ∷ others} (row ▸ rows) at note is =
     by (nat_eq here.0 at) refl (row_of rows at note)
   where
-    by : (t : Bool) → nat_eq here.0 at ≡ t → (lookup others at ≡ Some note → Row at note)
-        → Row at note
+    by : (t : Bool) → nat_eq here.0 at ≡ t → (lookup others at ≡ Some note → Row at note) → Row at note
     by true same rest =
         let it = sym (ap (λ (t : Bool). if t then Some here.1 else lookup others at) same) ∙ is in
         subst (λ j. Row j note) (eqb-true here.0 at same)
         (subst (λ k. Row here.0 k) (some_same it) row)
-    by false other rest = rest
-        (sym (ap (λ (t : Bool). if t then Some here.1 else lookup others at) other) ∙ is)
+    by false other rest = rest (sym (ap (λ (t : Bool). if t then Some here.1 else lookup others at) other) ∙ is)

@@ -19,8 +19,7 @@ pub further_turns : (call : Call) (m : ℕ → ℕ) → after (further call m) �
 further_turns call m = grows call.from.s call.steps call.others m call.from
 
 pub session_goes_on : (R : List ℕ) (call : Call) (calls : List Call) (m : ℕ → ℕ) → IsSessionBy (Tells R) (call ∷ calls)
-    → ((b : ℕ) → guards (is_kept (is_table call calls)) call.from.s (after call).s b ≡ true
-    → m b ≡ (after call).mem b)
+    → ((b : ℕ) → guards (is_kept (is_table call calls)) call.from.s (after call).s b ≡ true → m b ≡ (after call).mem b)
     → IsSessionBy (Tells R) (further call m ∷ calls)
 session_goes_on R call calls m session same = (
   session.0,
@@ -32,14 +31,7 @@ session_goes_on R call calls m session same = (
 
 pub unless_map : (routine : Routine) (P Q : Type 0) → (P → Q) → UnlessReset routine P → UnlessReset routine Q
 unless_map Reset P Q f is = tt
-unless_map Tick P Q f is = f is
-unless_map Ticks P Q f is = f is
-unless_map Run P Q f is = f is
-unless_map (Offer F) P Q f is = f is
-unless_map Redraw P Q f is = f is
-unless_map (Open F) P Q f is = f is
-unless_map (Puts part) P Q f is = f is
-unless_map Close P Q f is = f is
+unless_map _ P Q f is = f is
 
 -- the newest call is followed by one that begins with this memory
 follows : (R : List ℕ) (call : Call) (calls : List Call) → Rested R calls call.from.mem

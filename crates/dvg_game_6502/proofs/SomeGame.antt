@@ -70,13 +70,7 @@ it_begins other small = record {
   loaded = λ b low high. refl;
   entry = refl;
   stack = refl;
-  bytes = record {
-    a = omega arith;
-    x = omega arith;
-    y = omega arith;
-    s = omega arith;
-    mem = rom_small other small;
-  };
+  bytes = record { a = omega arith; x = omega arith; y = omega arith; s = omega arith; mem = rom_small other small };
 }
 
 pub plays : Plays

@@ -55,9 +55,6 @@ module _ (st : State) (came : Came) (amid : st.amid ≡ Some came) (low : st.s +
       by (inr more) = absurd (not_none more.0)
   leaves Push choice safe go = other (stack_place st.s) st.a st.mem b (off st.s (omega arith))
   leaves PushFlags choice safe go = other (stack_place st.s) choice.byte st.mem b (off st.s (omega arith))
-  leaves Pull choice safe go = refl
-  leaves PullFlags choice safe go = refl
-  leaves Branch choice safe go = refl
   leaves Jump choice safe go = by (is_driver to) first
     where
       to : ℕ
@@ -84,10 +81,10 @@ module _ (st : State) (came : Came) (amid : st.amid ≡ Some came) (low : st.s +
           other (stack_place (st.s + 255)) ((st.pc + 2) % 256) (put (stack_place st.s) ((st.pc + 2) / 256) st.mem) b
           (λ same. off (st.s + 255) (omega arith) same)
           ∙ other (stack_place st.s) ((st.pc + 2) / 256) st.mem b (off st.s (omega arith))
-  leaves Return choice safe go = refl
   leaves Finish choice safe go = home_mem st.home
       (record (ticked st) { pc = resumed_at st; s = (st.s + 3) % 256; amid = None; home = None }) b
   leaves Wild choice safe go = absurd safe
+  leaves _ choice safe go = refl
 
 module _ (rom : ℕ → ℕ) (start : ℕ) (notes : Notes) (accepted : accepts rom start notes ≡ true) where
   good : (st : State) → IsRun rom start st → Good rom notes st

@@ -43,20 +43,16 @@ abbrev are_code : List (ℕ × Note) → Bool
 are_code [] = true
 are_code (row ∷ rows) = is_code row.0 && are_code rows
 
-code_of : (table : List (ℕ × Note)) (at : ℕ) (note : Note) → are_code table ≡ true
-    → lookup table at ≡ Some note
+code_of : (table : List (ℕ × Note)) (at : ℕ) (note : Note) → are_code table ≡ true → lookup table at ≡ Some note
     → is_code at ≡ true
 code_of [] at note all is = absurd (cc)
 code_of (row ∷ rows) at note all is =
     by (nat_eq row.0 at) refl (code_of rows at note
     (both_true (is_code row.0) (are_code rows) all).1)
   where
-    by : (t : Bool) → nat_eq row.0 at ≡ t → (lookup rows at ≡ Some note → is_code at ≡ true)
-        → is_code at ≡ true
-    by true same rest = ap is_code (sym (eqb-true row.0 at same))
-        ∙ (both_true (is_code row.0) (are_code rows) all).0
-    by false other rest = rest
-        (sym (ap (λ (t : Bool). if t then Some row.1 else lookup rows at) other) ∙ is)
+    by : (t : Bool) → nat_eq row.0 at ≡ t → (lookup rows at ≡ Some note → is_code at ≡ true) → is_code at ≡ true
+    by true same rest = ap is_code (sym (eqb-true row.0 at same)) ∙ (both_true (is_code row.0) (are_code rows) all).0
+    by false other rest = rest (sym (ap (λ (t : Bool). if t then Some row.1 else lookup rows at) other) ∙ is)
 
 pub noted_is_code : (at : ℕ) (note : Note) → noted at ≡ Some note → is_code at ≡ true
 noted_is_code at note is = code_of notes at note refl is

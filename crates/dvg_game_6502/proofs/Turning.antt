@@ -25,8 +25,7 @@ pub record Turned (awake : Bool) (s : ℕ) (cpu new : Cpu) : Type 0 where
 
 -- the level stays
 levelled : (s : ℕ) (one two : Bool) (cpu new : Cpu) → (not one || two) ≡ true → new.s ≡ cpu.s
-    → ((k : ℕ) → new.mem (stack_place k) ≡ cpu.mem (stack_place k)) → Level s one cpu
-    → Level s two new
+    → ((k : ℕ) → new.mem (stack_place k) ≡ cpu.mem (stack_place k)) → Level s one cpu → Level s two new
 levelled s one two cpu new implies same stack (home is) = home (same ∙ is)
 levelled s one two cpu new implies same stack (below is small up back) =
     below (sym (ap (λ (t : Bool). not t || two) is) ∙ implies)
@@ -51,8 +50,7 @@ module _ (awake : Bool) (s : ℕ) (few : s < 256) (cpu : Cpu) (good : Good awake
   is_in = noted_is_code here good.note good.here
 
   -- the bytes behind the opcode
-  next_code : (k : ℕ) → k ≤ 2 → nat_lt (here + 2) 0x6A87 ≡ true
-      → cpu.mem (here + k) ≡ byte_at (here + k)
+  next_code : (k : ℕ) → k ≤ 2 → nat_lt (here + 2) 0x6A87 ≡ true → cpu.mem (here + k) ≡ byte_at (here + k)
   next_code k small room = good.coded (here + k)
       (and_from (nat_le 0x6800 (here + k)) (nat_lt (here + k) 0x6A87) (le-leb 0x6800 (here + k) low)
       (le-leb (suc (here + k)) 0x6A87 high))
@@ -65,12 +63,10 @@ module _ (awake : Bool) (s : ℕ) (few : s < 256) (cpu : Cpu) (good : Good awake
       high = let e = leb-true (suc (here + 2)) 0x6A87 room in omega arith
 
   -- a step that leaves all but what may be touched, where its note serves
-  serves : (new : Cpu) (within : Bool) (claim : Claim) (also : Also) (at : ℕ) → new.pc ≡ at
-      → new.s ≡ cpu.s
+  serves : (new : Cpu) (within : Bool) (claim : Claim) (also : Also) (at : ℕ) → new.pc ≡ at → new.s ≡ cpu.s
       → new.mem 0x13 < 256 → HoldsIn claim new.mem → MeansIn also new
       → ((b : ℕ) → is_touched b ≡ false → new.mem b ≡ cpu.mem b) → Level s within cpu
-      → (awake ≡ true → is_known claim ≡ true)
-      → Serves within claim also at → Turned awake s cpu new
+      → (awake ≡ true → is_known claim ≡ true) → Serves within claim also at → Turned awake s cpu new
   serves new within claim also at pc same place holds means spares level aware
       (to {note = note} there implies weaker drops) = record {
         good = record {
@@ -96,8 +92,7 @@ module _ (awake : Bool) (s : ℕ) (few : s < 256) (cpu : Cpu) (good : Good awake
       (next_code 2 (omega arith) room)) refl good.place good.claim good.also
       (λ b off. refl) good.level good.aware there
 
-  branch_to : {taken : Claim} {one : Also} {passed : Claim} {two : Also}
-      → nat_lt (here + 2) 0x6A87 ≡ true
+  branch_to : {taken : Claim} {one : Also} {passed : Claim} {two : Also} → nat_lt (here + 2) 0x6A87 ≡ true
       → Forked cpu (new_by (byte_at here)) taken one passed two
       → (awake ≡ true → (is_known taken ≡ true) × (is_known passed ≡ true))
       → Serves good.note.inner taken one (target here (byte_at (here + 1)))
@@ -129,8 +124,7 @@ module _ (awake : Bool) (s : ℕ) (few : s < 256) (cpu : Cpu) (good : Good awake
       → noted (here + 3) ≡ Some (outer Ready Nothing) → Turned awake s cpu (new_by 0x20)
   call_to room not_within (to {note = note} there implies weaker drops) back = by good.level
     where
-      far : (b : ℕ) → nat_eq b (stack_place cpu.s) ≡ false
-          → nat_eq b (stack_place (cpu.s + 255)) ≡ false
+      far : (b : ℕ) → nat_eq b (stack_place cpu.s) ≡ false → nat_eq b (stack_place (cpu.s + 255)) ≡ false
           → (new_by 0x20).mem b ≡ cpu.mem b
       far b one two =
           kept (stack_place (cpu.s + 255)) ((here + 2) % 256)
@@ -141,8 +135,7 @@ module _ (awake : Bool) (s : ℕ) (few : s < 256) (cpu : Cpu) (good : Good awake
       off b k (inl less) = ne_eqb b (stack_place k) (λ same. absurd (omega arith))
       off b k (inr above) = ne_eqb b (stack_place k) (λ same. absurd (omega arith))
 
-      own : (b : ℕ) → (b < 0x100) ⊎ (0x200 ≤ b)
-          → (new_by 0x20).mem b ≡ cpu.mem b
+      own : (b : ℕ) → (b < 0x100) ⊎ (0x200 ≤ b) → (new_by 0x20).mem b ≡ cpu.mem b
       own b out = far b (off b cpu.s out) (off b (cpu.s + 255) out)
 
       by : Level s good.note.inner cpu → Turned awake s cpu (new_by 0x20)
@@ -185,8 +178,7 @@ module _ (awake : Bool) (s : ℕ) (few : s < 256) (cpu : Cpu) (good : Good awake
           second = omega arith
 
           differ : nat_eq (stack_place cpu.s) (stack_place (cpu.s + 255)) ≡ false
-          differ = ne_eqb (stack_place cpu.s) (stack_place (cpu.s + 255))
-              (λ same. absurd (omega arith))
+          differ = ne_eqb (stack_place cpu.s) (stack_place (cpu.s + 255)) (λ same. absurd (omega arith))
 
           low_there : (new_by 0x20).mem (stack_place ((cpu.s + 254) % 256 + 1)) ≡ (here + 2) % 256
           low_there = ap (new_by 0x20).mem first
@@ -245,8 +237,7 @@ module _ (awake : Bool) (s : ℕ) (few : s < 256) (cpu : Cpu) (good : Good awake
       opcode : cpu.mem here ≡ byte_at here
       opcode = good.coded here is_in
 
-      straight : {claim : Claim} {also : Also}
-          → Did (length_of (decoded opcodes (byte_at here))) cpu
+      straight : {claim : Claim} {also : Also} → Did (length_of (decoded opcodes (byte_at here))) cpu
           (new_by (byte_at here)) claim also → (awake ≡ true → is_known claim ≡ true)
           → Serves good.note.inner claim also (here + length_of (decoded opcodes (byte_at here)))
           → Turned awake s cpu (new_by (byte_at here))
@@ -256,8 +247,7 @@ module _ (awake : Bool) (s : ℕ) (few : s < 256) (cpu : Cpu) (good : Good awake
           (byte_at here))) did.pc did.s did.place did.claim did.also did.spares
           good.level aware there
 
-      by : Row here good.note → AreHard (new_by (byte_at here)).log
-          → Turned awake s cpu (new_by (byte_at here))
+      by : Row here good.note → AreHard (new_by (byte_at here)).log → Turned awake s cpu (new_by (byte_at here))
       by (goes_on room rule there) hard =
           straight (known cpu good.place rule (next_code 1 (omega arith) room)
           (next_code 2 (omega arith) room) good.claim good.also hard)
@@ -267,8 +257,7 @@ module _ (awake : Bool) (s : ℕ) (few : s < 256) (cpu : Cpu) (good : Good awake
           refl good.claim good.also hard) (λ is. straight_known (rule 0 0) (good.aware is)) there
       by (forks room rule yonder next) hard = branch_to room (forked cpu rule good.claim good.also)
           (λ is. fork_known rule (good.aware is)) yonder next
-      by (jumps room is there) hard =
-          subst (λ o. Turned awake s cpu (new_by o)) (sym is) (jump_to room there)
+      by (jumps room is there) hard = subst (λ o. Turned awake s cpu (new_by o)) (sym is) (jump_to room there)
       by (calls room is within there back) hard =
           subst (λ o. Turned awake s cpu (new_by o)) (sym is) (call_to room within there back)
       by (returns is weaker) hard =

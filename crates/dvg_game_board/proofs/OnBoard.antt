@@ -27,15 +27,8 @@ use Rattle.dvg_game_board.proofs.Standing.{Last, stand_ends}
 
 -- what is offered is checked
 pub by_check : (R : List ℕ) (r : Routine) → IsChecked R r → IsCheckedTable R r
-by_check R calls_of.Reset is = tt
-by_check R calls_of.Tick is = tt
-by_check R calls_of.Ticks is = tt
-by_check R calls_of.Run is = tt
 by_check R (calls_of.Offer F) is = is
-by_check R calls_of.Redraw is = tt
-by_check R (calls_of.Open F) is = tt
-by_check R (calls_of.Puts part) is = tt
-by_check R calls_of.Close is = tt
+by_check R _ is = tt
 
 pub nothing : (R : List ℕ) (held : ℕ → ℕ) (older newer : List Bus) → AreMade R held [] older newer → older ≡ newer
 nothing R held older newer no_more = refl

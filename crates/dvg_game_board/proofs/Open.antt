@@ -97,14 +97,7 @@ module _ {R image : List ℕ} {held : ℕ → ℕ} {routine : Routine} {s : ℕ}
 -- dvg_reset asks for the RAM, and no other routine does
 shares_for : (r : Routine) (mem : ℕ → ℕ) (board : Board) → SharesRam calls_of.Reset mem board → SharesRam r mem board
 shares_for calls_of.Reset mem board shares = shares
-shares_for calls_of.Tick mem board shares = tt
-shares_for calls_of.Ticks mem board shares = tt
-shares_for calls_of.Run mem board shares = tt
-shares_for (calls_of.Offer F) mem board shares = tt
-shares_for calls_of.Redraw mem board shares = tt
-shares_for (calls_of.Open F) mem board shares = tt
-shares_for (calls_of.Puts part) mem board shares = tt
-shares_for calls_of.Close mem board shares = tt
+shares_for _ mem board shares = tt
 
 -- a call begins
 pub board_begins : (R image : List ℕ) (held : ℕ → ℕ) (routine : Routine) (cpu : Cpu) (calls : List Call) (log : Log)

@@ -96,33 +96,20 @@ still cpu new log mem = record { none = ap written log; ram = λ b is. ap (λ (m
 -- a byte is read
 read : (mode : Mode) (cpu : Cpu) → cpu.log ≡ [] → IsQuiet cpu (reading mode cpu)
 read Processor.Immediate cpu none = record { none = ap written none; ram = λ b is. refl }
-read Processor.ZeroPage cpu none = record { none = ap written none; ram = λ b is. refl }
-read Processor.ZeroPageX cpu none = record { none = ap written none; ram = λ b is. refl }
-read Processor.ZeroPageY cpu none = record { none = ap written none; ram = λ b is. refl }
-read Processor.Absolute cpu none = record { none = ap written none; ram = λ b is. refl }
-read Processor.AbsoluteX cpu none = record { none = ap written none; ram = λ b is. refl }
-read Processor.AbsoluteY cpu none = record { none = ap written none; ram = λ b is. refl }
-read Processor.IndexedIndirect cpu none = record { none = ap written none; ram = λ b is. refl }
-read Processor.IndirectIndexed cpu none = record { none = ap written none; ram = λ b is. refl }
+read _ cpu none = record { none = ap written none; ram = λ b is. refl }
 
 -- with other registers and flags
 set : (r : Register) (v : ℕ) (cpu one : Cpu) → IsQuiet cpu one → IsQuiet cpu (setting r v one)
 set A v cpu one quiet = record { none = quiet.none; ram = quiet.ram }
-set X v cpu one quiet = record { none = quiet.none; ram = quiet.ram }
-set Y v cpu one quiet = record { none = quiet.none; ram = quiet.ram }
+set _ v cpu one quiet = record { none = quiet.none; ram = quiet.ram }
 
 flagged : (flag : Processor.Flag) (to : Bool) (cpu one : Cpu) → IsQuiet cpu one → IsQuiet cpu (flagging flag to one)
 flagged Processor.Negative to cpu one quiet = record { none = quiet.none; ram = quiet.ram }
-flagged Processor.Zero to cpu one quiet = record { none = quiet.none; ram = quiet.ram }
-flagged Processor.Carry to cpu one quiet = record { none = quiet.none; ram = quiet.ram }
-flagged Processor.Overflow to cpu one quiet = record { none = quiet.none; ram = quiet.ram }
-flagged Processor.Decimal to cpu one quiet = record { none = quiet.none; ram = quiet.ram }
-flagged Processor.Interrupt to cpu one quiet = record { none = quiet.none; ram = quiet.ram }
+flagged _ to cpu one quiet = record { none = quiet.none; ram = quiet.ram }
 
 -- where a store writes, as the checker has it
 stores : (mode : Mode) (cpu : Cpu) (st : State) → cpu.x < 256 → cpu.y < 256 → IsBeside (storing mode) (of_cpu cpu st)
     → is_board (Processor.address mode cpu) ≡ false
-stores Processor.Immediate cpu st x y safe = absurd safe
 stores Processor.ZeroPage cpu st x y safe = may_aside (of_cpu cpu st) (Processor.address Processor.ZeroPage cpu) (safe 0)
 stores Processor.ZeroPageX cpu st x y safe =
     may_aside (of_cpu cpu st) (Processor.address Processor.ZeroPageX cpu) (safe cpu.x)
@@ -143,8 +130,7 @@ stores Processor.AbsoluteY cpu st x y safe = subst (λ q. is_board q ≡ false)
     ∙ ap (λ q. (cpu.mem (cpu.pc + 1) + 256 * cpu.mem q + cpu.y) % 65536)
     (let e : cpu.pc + 1 + 1 ≡ cpu.pc + 2 = omega arith in e))
     (may_aside (of_cpu cpu st) (address kinds.AbsoluteIndexed cpu.mem cpu.pc cpu.y) (safe cpu.y))
-stores Processor.IndexedIndirect cpu st x y safe = absurd safe
-stores Processor.IndirectIndexed cpu st x y safe = absurd safe
+stores _ cpu st x y safe = absurd safe
 
 pub quiet_by : (i : Instr) (cpu : Cpu) (st : State) → cpu.log ≡ [] → cpu.x < 256 → cpu.y < 256
     → IsBeside (kind i) (of_cpu cpu st) → IsQuiet cpu (Processor.does i cpu)
@@ -178,31 +164,23 @@ quiet_by (Processor.ShiftAt shift mode) cpu st none x y safe =
     let one = writes_quiet (Processor.address mode cpu)
     (Processor.shifted shift cpu.c (Processor.operand mode cpu)) cpu (reading mode cpu)
     (stores mode cpu st x y safe) (read mode cpu none) in record { none = one.none; ram = one.ram }
-quiet_by (Processor.ShiftA shift) cpu st none x y safe = record { none = ap written none; ram = λ b is. refl }
 quiet_by (Processor.Set flag to) cpu st none x y safe =
     flagged flag to cpu (next 1 cpu) (still cpu (next 1 cpu) none refl)
-quiet_by (Processor.Branch flag when) cpu st none x y safe = record { none = ap written none; ram = λ b is. refl }
-quiet_by Processor.Jump cpu st none x y safe = record { none = ap written none; ram = λ b is. refl }
 quiet_by Processor.JumpAt cpu st none x y safe = absurd safe
 quiet_by Processor.Call cpu st none x y safe =
     let one = writes_quiet (stack_place (cpu.s + 255)) ((cpu.pc + 2) % 256) cpu
     (writing (stack_place cpu.s) ((cpu.pc + 2) / 256) cpu) (stack_aside (cpu.s + 255))
     (writes_quiet (stack_place cpu.s) ((cpu.pc + 2) / 256) cpu cpu (stack_aside cpu.s) (still cpu cpu none refl)) in
     record { none = one.none; ram = one.ram }
-quiet_by Processor.Return cpu st none x y safe = record { none = ap written none; ram = λ b is. refl }
 quiet_by Processor.PushA cpu st none x y safe =
     let one = writes_quiet (stack_place cpu.s) cpu.a cpu (next 1 cpu) (stack_aside cpu.s) (still cpu (next 1 cpu) none refl) in
     record { none = one.none; ram = one.ram }
 quiet_by Processor.PushFlags cpu st none x y safe =
     let one = writes_quiet (stack_place cpu.s) (flags_byte true cpu) cpu (next 1 cpu) (stack_aside cpu.s)
     (still cpu (next 1 cpu) none refl) in record { none = one.none; ram = one.ram }
-quiet_by Processor.PullA cpu st none x y safe = record { none = ap written none; ram = λ b is. refl }
-quiet_by Processor.PullFlags cpu st none x y safe = record { none = ap written none; ram = λ b is. refl }
-quiet_by Processor.FromStack cpu st none x y safe = record { none = ap written none; ram = λ b is. refl }
 quiet_by Processor.ToStack cpu st none x y safe = absurd safe
-quiet_by Processor.Resume cpu st none x y safe = record { none = ap written none; ram = λ b is. refl }
-quiet_by Processor.Pass cpu st none x y safe = record { none = ap written none; ram = λ b is. refl }
 quiet_by Processor.Unknown cpu st none x y safe = absurd safe
+quiet_by _ cpu st none x y safe = record { none = ap written none; ram = λ b is. refl }
 
 -- each instruction of the game, or of its NMI
 pub quiet : (cpu : Cpu) (st : State) (flags : ℕ → ℕ) → cpu.x < 256 → cpu.y < 256

@@ -66,16 +66,14 @@ module _ (R image : List ℕ) (held rom : ℕ → ℕ) (start : ℕ) where
   Plays (Some at) = (log : List Access) × IsPlay rom start at.0 at.1 log
 
   plays : {at : Option (Cpu × ℕ)} {clocks : List Bus} → IsCabinet R image held rom start at clocks → Plays at
-  plays (powers is_rom is_image same) = tt
   plays (waits bus on is served idle) = plays on
   plays (reads bus on is served access write) = plays on
-  plays (resets bus on is served idle reset) = tt
-  plays (tests bus on is served quiet) = tt
   plays (begins cpu since on is shares) = ([], Play.begins cpu since is)
   plays (does {cpu} flags on go small taken) = let one = plays on in
       (made cpu (done flags cpu) ++ one.0, Play.does flags one.1 go small)
   plays (nmi on late) = let one = plays on in (one.0, Play.nmi one.1 late)
   plays (turns mem on small same) = let one = plays on in (one.0, Play.turns mem one.1 small same)
+  plays _ = tt
 
   -- a machine whose tables are in the ROM
   record Machine (clocks : List Bus) : Type 0 where

@@ -82,21 +82,17 @@ module _ (cpu : Cpu) (r : InRom cpu) where
   stacked s = inl (omega arith)
 
   tame_naming : (mode : Mode) → AreTame (naming mode cpu)
-  tame_naming Immediate = (first, tt)
-  tame_naming ZeroPage = (first, tt)
-  tame_naming ZeroPageX = (first, tt)
-  tame_naming ZeroPageY = (first, tt)
   tame_naming Absolute = (second, (first, tt))
   tame_naming AbsoluteX = (second, (first, tt))
   tame_naming AbsoluteY = (second, (first, tt))
   tame_naming IndexedIndirect =
       (wrapped ((cpu.mem (cpu.pc + 1) + cpu.x) % 256 + 1), (wrapped (cpu.mem (cpu.pc + 1) + cpu.x), (first, tt)))
   tame_naming IndirectIndexed = (wrapped (cpu.mem (cpu.pc + 1) + 1), (byte (cpu.pc + 1), (first, tt)))
+  tame_naming _ = (first, tt)
 
   tame_after : (instr : Instr) → AreTame (after_opcode instr cpu)
   tame_after (Load r mode) = tame_naming mode
   tame_after (Store r mode) = tame_naming mode
-  tame_after (Transfer from to) = tt
   tame_after (And mode) = tame_naming mode
   tame_after (Or mode) = tame_naming mode
   tame_after (Xor mode) = tame_naming mode
@@ -105,24 +101,16 @@ module _ (cpu : Cpu) (r : InRom cpu) where
   tame_after (Compare r mode) = tame_naming mode
   tame_after (TestBits mode) = tame_naming mode
   tame_after (Change mode by) = tame_naming mode
-  tame_after (Step r by) = tt
   tame_after (ShiftAt shift mode) = tame_naming mode
-  tame_after (ShiftA shift) = tt
-  tame_after (Set flag to) = tt
   tame_after (Branch flag when) = (first, tt)
   tame_after Jump = (second, (first, tt))
   tame_after JumpAt = (second, (first, tt))
   tame_after Call = (second, (first, tt))
   tame_after Return = (stacked (cpu.s + 2), (stacked (cpu.s + 1), tt))
-  tame_after PushA = tt
-  tame_after PushFlags = tt
   tame_after PullA = (stacked (cpu.s + 1), tt)
   tame_after PullFlags = (stacked (cpu.s + 1), tt)
-  tame_after FromStack = tt
-  tame_after ToStack = tt
   tame_after Resume = (stacked (cpu.s + 3), (stacked (cpu.s + 2), (stacked (cpu.s + 1), tt)))
-  tame_after Pass = tt
-  tame_after Unknown = tt
+  tame_after _ = tt
 
   pub tame_fetched : (instr : Instr) → AreTame (fetched instr cpu)
   tame_fetched instr = tame_both (after_opcode instr cpu) (got cpu cpu.pc ∷ []) (tame_after instr) (here, tt)
@@ -136,31 +124,18 @@ module _ (cpu : Cpu) (r : InRom cpu) where
 
     reads : (mode : Mode) → Good (reading mode cpu).log
     reads Immediate = quiet cpu.log refl
-    reads ZeroPage = subst (λ l. AreTame (l ++ rest)) (sym none) tame
-    reads ZeroPageX = subst (λ l. AreTame (l ++ rest)) (sym none) tame
-    reads ZeroPageY = subst (λ l. AreTame (l ++ rest)) (sym none) tame
-    reads Absolute = subst (λ l. AreTame (l ++ rest)) (sym none) tame
-    reads AbsoluteX = subst (λ l. AreTame (l ++ rest)) (sym none) tame
-    reads AbsoluteY = subst (λ l. AreTame (l ++ rest)) (sym none) tame
-    reads IndexedIndirect = subst (λ l. AreTame (l ++ rest)) (sym none) tame
-    reads IndirectIndexed = subst (λ l. AreTame (l ++ rest)) (sym none) tame
+    reads _ = subst (λ l. AreTame (l ++ rest)) (sym none) tame
 
     sets : (r : Register) (v : ℕ) (one : Cpu) → Good one.log → Good (setting r v one).log
     sets A v one g = g
-    sets X v one g = g
-    sets Y v one g = g
+    sets _ v one g = g
 
     flags : (flag : Flag) (to : Bool) → Good (flagging flag to (next 1 cpu)).log
     flags Negative to = quiet cpu.log refl
-    flags Zero to = quiet cpu.log refl
-    flags Carry to = quiet cpu.log refl
-    flags Overflow to = quiet cpu.log refl
-    flags Decimal to = quiet cpu.log refl
-    flags Interrupt to = quiet cpu.log refl
+    flags _ to = quiet cpu.log refl
 
     fine_log : (instr : Instr) → is_direct instr ≡ true → Good (does instr cpu).log
     fine_log (Load r mode) is = sets r _ (reading mode cpu) (reads mode)
-    fine_log (Store r mode) is = quiet cpu.log refl
     fine_log (Transfer from to) is = sets to _ (next 1 cpu) (quiet cpu.log refl)
     fine_log (And mode) is = reads mode
     fine_log (Or mode) is = reads mode
@@ -172,22 +147,9 @@ module _ (cpu : Cpu) (r : InRom cpu) where
     fine_log (Change mode by) is = reads mode
     fine_log (Step r by) is = sets r _ (next 1 cpu) (quiet cpu.log refl)
     fine_log (ShiftAt shift mode) is = reads mode
-    fine_log (ShiftA shift) is = quiet cpu.log refl
     fine_log (Set flag to) is = flags flag to
-    fine_log (Branch flag when) is = quiet cpu.log refl
-    fine_log Jump is = quiet cpu.log refl
     fine_log JumpAt is = absurd (cc)
-    fine_log Call is = quiet cpu.log refl
-    fine_log Return is = quiet cpu.log refl
-    fine_log PushA is = quiet cpu.log refl
-    fine_log PushFlags is = quiet cpu.log refl
-    fine_log PullA is = quiet cpu.log refl
-    fine_log PullFlags is = quiet cpu.log refl
-    fine_log FromStack is = quiet cpu.log refl
-    fine_log ToStack is = quiet cpu.log refl
-    fine_log Resume is = quiet cpu.log refl
-    fine_log Pass is = quiet cpu.log refl
-    fine_log Unknown is = quiet cpu.log refl
+    fine_log _ is = quiet cpu.log refl
 
   -- all that an instruction accesses
   pub fine : (instr : Instr) → is_direct instr ≡ true → cpu.log ≡ [] → AreFine ((does instr cpu).log ++ fetched instr cpu)

@@ -33,9 +33,8 @@ writes_first cells cycle later mem =
 
 -- a write is one of a bit
 write_bit : (w : ℕ) → w < 2 → nat_eq w 1 ≡ not (nat_eq w 0)
-write_bit zero less = refl
-write_bit (suc zero) less = refl
 write_bit (suc (suc n)) less = absurd (omega (arith, less))
+write_bit _ less = refl
 
 -- one cycle in the work RAM
 low_one : (cells : Cells) (din : ℕ) (work mem : ℕ → ℕ) (b : ℕ) → write cells < 2 → b < 0x200 → mem b ≡ work b

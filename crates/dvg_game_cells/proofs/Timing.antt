@@ -17,14 +17,7 @@ use Rattle.dvg_game_cells.proofs.Doing.{AreAsked, calm_in, calms, counted, wrote
 -- no instruction has more cycles than six
 by_mode : (mode : Mode) → cycles_by mode ≤ 5
 by_mode Immediate = omega arith
-by_mode ZeroPage = omega arith
-by_mode ZeroPageX = omega arith
-by_mode ZeroPageY = omega arith
-by_mode Absolute = omega arith
-by_mode AbsoluteX = omega arith
-by_mode AbsoluteY = omega arith
-by_mode IndexedIndirect = omega arith
-by_mode IndirectIndexed = omega arith
+by_mode _ = omega arith
 
 of_mode : (mode : Mode) → cycles_by mode ≤ 6
 of_mode mode = let five = by_mode mode in omega (arith, five)
@@ -44,36 +37,12 @@ at_most (Compare r mode) = of_mode mode
 at_most (TestBits mode) = of_mode mode
 at_most (Change mode by) = more_mode mode
 at_most (ShiftAt shift mode) = more_mode mode
-at_most (Transfer from to) = omega arith
-at_most (Step r by) = omega arith
-at_most (ShiftA shift) = omega arith
-at_most (Set flag to) = omega arith
-at_most (Branch flag when) = omega arith
-at_most Jump = omega arith
-at_most JumpAt = omega arith
-at_most Call = omega arith
-at_most Return = omega arith
-at_most PushA = omega arith
-at_most PushFlags = omega arith
-at_most PullA = omega arith
-at_most PullFlags = omega arith
-at_most FromStack = omega arith
-at_most ToStack = omega arith
-at_most Resume = omega arith
-at_most Pass = omega arith
-at_most Unknown = omega arith
+at_most _ = omega arith
 
 -- and each has one
 some_mode : (mode : Mode) → 0 < cycles_by mode
 some_mode Immediate = omega arith
-some_mode ZeroPage = omega arith
-some_mode ZeroPageX = omega arith
-some_mode ZeroPageY = omega arith
-some_mode Absolute = omega arith
-some_mode AbsoluteX = omega arith
-some_mode AbsoluteY = omega arith
-some_mode IndexedIndirect = omega arith
-some_mode IndirectIndexed = omega arith
+some_mode _ = omega arith
 
 pub at_least : (instr : Instr) → 0 < cycles instr
 at_least (Load r mode) = some_mode mode
@@ -85,26 +54,7 @@ at_least (Add mode) = some_mode mode
 at_least (Subtract mode) = some_mode mode
 at_least (Compare r mode) = some_mode mode
 at_least (TestBits mode) = some_mode mode
-at_least (Change mode by) = omega arith
-at_least (ShiftAt shift mode) = omega arith
-at_least (Transfer from to) = omega arith
-at_least (Step r by) = omega arith
-at_least (ShiftA shift) = omega arith
-at_least (Set flag to) = omega arith
-at_least (Branch flag when) = omega arith
-at_least Jump = omega arith
-at_least JumpAt = omega arith
-at_least Call = omega arith
-at_least Return = omega arith
-at_least PushA = omega arith
-at_least PushFlags = omega arith
-at_least PullA = omega arith
-at_least PullFlags = omega arith
-at_least FromStack = omega arith
-at_least ToStack = omega arith
-at_least Resume = omega arith
-at_least Pass = omega arith
-at_least Unknown = omega arith
+at_least _ = omega arith
 
 module _ (R : List ℕ) (held rom : ℕ → ℕ) where
   -- no NMI has risen in cycles, and none is due; or one rose, long after the last

@@ -112,12 +112,8 @@ module _ (cpu : Cpu) (s_in : cpu.s < 256) (ir low high back was : ℕ) where
 
   -- none of them reads an opcode
   nmi_amid : (list : List Cycle) → length list < 5 → sync (ends risen list) ≡ 0
-  nmi_amid [] less = refl
-  nmi_amid (a ∷ []) less = refl
-  nmi_amid (a ∷ b ∷ []) less = refl
-  nmi_amid (a ∷ b ∷ c ∷ []) less = refl
-  nmi_amid (a ∷ b ∷ c ∷ d ∷ []) less = refl
   nmi_amid (a ∷ b ∷ c ∷ d ∷ e ∷ list) less = absurd (omega (arith, less))
+  nmi_amid _ less = refl
 
 -- those of a reset read there
 reset_accesses : (cpu : Cpu) (ir low high back was due : ℕ) (list : List Cycle) → length list ≤ 2
@@ -129,9 +125,8 @@ reset_accesses cpu ir low high back was due (a ∷ b ∷ c ∷ list) less = absu
 
 reset_amid : (cpu : Cpu) (ir low high back was due : ℕ) (list : List Cycle) → length list < 2
     → sync (ends (in_state 0 cpu ir low high back was due) list) ≡ 0
-reset_amid cpu ir low high back was due [] less = refl
-reset_amid cpu ir low high back was due (a ∷ []) less = refl
 reset_amid cpu ir low high back was due (a ∷ b ∷ list) less = absurd (omega (arith, less))
+reset_amid cpu ir low high back was due _ less = refl
 
 module _ (R image : List ℕ) (held rom : ℕ → ℕ) (start : ℕ) where
   high_answered : (list : List Turn) (older : List Bus) (cells : Cells) (work : ℕ → ℕ) (calm : ℕ) (k : Cpu)

@@ -437,9 +437,8 @@ module _ (laws : Laws) (R image : List ℕ) (held rom : ℕ → ℕ) (start : �
     }
 
     never : (was : ℕ) → was < 2 → (nat_eq was 1 && nat_eq was 0) ≡ true → ⊥
-    never zero less e = cc
-    never (suc zero) less e = cc
     never (suc (suc n)) less e = absurd (omega (arith, less))
+    never _ less e = cc
 
     ends_asked : Asked rom cells work calm cells.was (answer rom work 0 (at cells))
     ends_asked = record {

@@ -43,22 +43,18 @@ choose P false f g one other = other refl
 
 masked : (k : Known) (byte y mask mask' : ℕ) → mask ≡ mask' → IsKnown k byte y
     → IsKnown (with_bits mask' k) (bit_or byte mask) y
-masked Any byte y mask mask' same is = tt
 masked (Is n) byte y mask mask' same is = ap (λ b. bit_or b mask) is ∙ ap (bit_or n) same
-masked (Under n) byte y mask mask' same is = tt
 masked (By f) byte y mask mask' same is = ap (λ b. bit_or b mask) is ∙ ap (bit_or (f y)) same
+masked _ byte y mask mask' same is = tt
 
 is_fixed : (k : Known) (byte y other : ℕ) → IsKnown k byte y → IsKnown (fixed k) byte other
-is_fixed Any byte y other is = tt
 is_fixed (Is n) byte y other is = is
-is_fixed (Under n) byte y other is = tt
-is_fixed (By f) byte y other is = tt
+is_fixed _ byte y other is = tt
 
 is_under : (k : Known) (byte y : ℕ) → byte < 256 → IsKnown k byte y → byte < bound k
-is_under Any byte y small is = small
 is_under (Is n) byte y small is = omega (arith, is)
 is_under (Under n) byte y small is = is
-is_under (By f) byte y small is = small
+is_under _ byte y small is = small
 
 less_than : (t : Bool) (y one other : ℕ) → nat_le one other ≡ t → y < one → y < other → y < (if t then one else other)
 less_than true y one other is a b = a
@@ -81,18 +77,7 @@ keeps (Quiet Nothing bytes) cpu new st choice alike small f is = same_registers 
 keeps (Reads Nothing place) cpu new st choice alike small f is = same_registers f cpu new alike.a alike.x alike.y small is
 keeps (Stores place) cpu new st choice alike small f is = same_registers f cpu new alike.a alike.x alike.y small is
 keeps Branch cpu new st choice alike small f is = same_registers f cpu new alike.a alike.x alike.y small is
-keeps (Quiet (Only r) bytes) cpu new st choice alike small f is = holds_nothing new.a new.x new.y new.c small
-keeps (Reads (Only r) place) cpu new st choice alike small f is = holds_nothing new.a new.x new.y new.c small
-keeps (Transfer from to) cpu new st choice alike small f is = holds_nothing new.a new.x new.y new.c small
-keeps Push cpu new st choice alike small f is = holds_nothing new.a new.x new.y new.c small
-keeps PushFlags cpu new st choice alike small f is = holds_nothing new.a new.x new.y new.c small
-keeps Pull cpu new st choice alike small f is = holds_nothing new.a new.x new.y new.c small
-keeps PullFlags cpu new st choice alike small f is = holds_nothing new.a new.x new.y new.c small
-keeps Jump cpu new st choice alike small f is = holds_nothing new.a new.x new.y new.c small
-keeps Call cpu new st choice alike small f is = holds_nothing new.a new.x new.y new.c small
-keeps Return cpu new st choice alike small f is = holds_nothing new.a new.x new.y new.c small
-keeps Finish cpu new st choice alike small f is = holds_nothing new.a new.x new.y new.c small
-keeps Wild cpu new st choice alike small f is = holds_nothing new.a new.x new.y new.c small
+keeps _ cpu new st choice alike small f is = holds_nothing new.a new.x new.y new.c small
 
 module _ (rom : ℕ → ℕ) (cpu : Cpu) (flags : ℕ → ℕ) (loaded : IsLoaded rom cpu.mem) (inside : IsInside cpu.pc)
     (bytes : AreBytes cpu) where

@@ -46,8 +46,7 @@ Sees End act after = act ≡ Halts
 
 sign_small : (n : ℤ) (bit : ℕ) → IsSignOf n bit → bit < 2
 sign_small (pos zero) bit is = is
-sign_small (pos (suc n)) bit is = omega (arith, is)
-sign_small (negsuc n) bit is = omega (arith, is)
+sign_small _ bit is = omega (arith, is)
 
 -- the view of a word, by the five comparisons
 abbrev chain : List ℕ → ℕ → ℕ → (b c d e f : Bool) → View
@@ -136,11 +135,8 @@ module _ (F : List OpKind) (R : List ℕ) where
   sees_op : (i : ℕ) (op : OpKind) → Sees (view_op i (Some op)) (op_act op) (InFrame (i + 1))
   sees_op i (Draw instr) = (instr, refl, refl)
   sees_op i (CallRom a) = (refl, refl)
-  sees_op i (JumpRom a) = refl
   sees_op i (Call j) = (refl, refl)
-  sees_op i (Jump j) = refl
-  sees_op i Return = refl
-  sees_op i Stop = refl
+  sees_op i _ = refl
 
   sees : {p : Place} {act : Act Place} {after : Place} → Stands F R p act after → Sees (view F R p) act after
   sees (in_frame {i} {op} {act} e is) = subst (λ v. Sees v act (InFrame (i + 1))) (ap (view_op i) (sym e))
@@ -160,14 +156,12 @@ module _ (F : List OpKind) (R : List ℕ) where
   goes_past well (On q) d act after fine s g =
       subst (λ k. (is_there F R k ≡ true) × (well k d ≡ true)) (sym s.2)
       (both_true (is_there F R q) (well q d) fine)
-  goes_past well (To q) d act after fine s g = absurd (subst GoesPast s g)
   goes_past well (Both q r) d act after fine s g =
       let one = both_true (is_there F R q && is_there F R r) _ fine in
       let two = both_true (not (nat_eq d 4)) _ one.1 in
       subst (λ k. (is_there F R k ≡ true) × (well k d ≡ true)) (sym s.1)
       ((both_true (is_there F R q) (is_there F R r) one.0).1, (both_true (well q (suc d)) (well r d) two.1).1)
-  goes_past well Back d act after fine s g = absurd (subst GoesPast s g)
-  goes_past well End d act after fine s g = absurd (subst GoesPast s g)
+  goes_past well _ d act after fine s g = absurd (subst GoesPast s g)
 
   names : (well : Place → ℕ → Bool) (v : View) (d : ℕ) (act : Act Place) (after q : Place)
       → leads_well F R well v d ≡ true → Sees v act after → Names act q → is_there F R q ≡ true
@@ -178,25 +172,20 @@ module _ (F : List OpKind) (R : List ℕ) where
   names well (Both r p) d act after q fine s n =
       subst (λ k. is_there F R k ≡ true) (subst (λ k. Names k q) s.0 n)
       (both_true (is_there F R r) (is_there F R p) (both_true (is_there F R r && is_there F R p) _ fine).0).0
-  names well Back d act after q fine s n = absurd (subst (λ k. Names k q) s n)
-  names well End d act after q fine s n = absurd (subst (λ k. Names k q) s n)
+  names well _ d act after q fine s n = absurd (subst (λ k. Names k q) s n)
 
   jumps : (well : Place → ℕ → Bool) (v : View) (d : ℕ) (q after : Place)
       → leads_well F R well v d ≡ true → Sees v (Jumps q) after → well q d ≡ true
-  jumps well Wrong d q after fine s = absurd (cc)
   jumps well (On r) d q after fine s = let e = s.1 in absurd (cc)
   jumps well (To r) d q after fine s =
       subst (λ k. well k d ≡ true) (subst (λ k. Names k q) s refl) (both_true (is_there F R r) _ fine).1
   jumps well (Both r p) d q after fine s = let e = s.0 in absurd (cc)
-  jumps well Back d q after fine s = absurd (cc)
-  jumps well End d q after fine s = absurd (cc)
+  jumps well _ d q after fine s = absurd (cc)
 
   calls : (well : Place → ℕ → Bool) (v : View) (d : ℕ) (q after : Place)
       → leads_well F R well v d ≡ true → Sees v (Calls q) after
       → (not (nat_eq d 4) ≡ true) × (well q (suc d) ≡ true)
-  calls well Wrong d q after fine s = absurd (cc)
   calls well (On r) d q after fine s = let e = s.1 in absurd (cc)
-  calls well (To r) d q after fine s = absurd (cc)
   calls well (Both r p) d q after fine s =
       let one = both_true (is_there F R r && is_there F R p) _ fine in
       let two = both_true (not (nat_eq d 4)) _ one.1 in (
@@ -204,17 +193,14 @@ module _ (F : List OpKind) (R : List ℕ) where
         subst (λ k. well k (suc d) ≡ true) (subst (λ k. Names k q) s.0 refl)
             (both_true (well r (suc d)) (well p d) two.1).0,
       )
-  calls well Back d q after fine s = absurd (cc)
-  calls well End d q after fine s = absurd (cc)
+  calls well _ d q after fine s = absurd (cc)
 
   returns : (well : Place → ℕ → Bool) (v : View) (d : ℕ) (after : Place)
       → leads_well F R well v d ≡ true → Sees v Returns after → not (nat_eq d 0) ≡ true
-  returns well Wrong d after fine s = absurd (cc)
   returns well (On r) d after fine s = let e = s.1 in absurd (cc)
-  returns well (To r) d after fine s = absurd (cc)
   returns well (Both r p) d after fine s = let e = s.0 in absurd (cc)
   returns well Back d after fine s = fine
-  returns well End d after fine s = absurd (cc)
+  returns well _ d after fine s = absurd (cc)
 
   not_same : (d n : ℕ) → not (nat_eq d n) ≡ true → d ≡ n → ⊥
   not_same d n apart is = let e = sym (ap not (eq-eqb d n is)) ∙ apart in cc
@@ -274,13 +260,11 @@ module _ (F : List OpKind) (R : List ℕ) where
       by (suc n, less, well) = (n, omega (arith, less), follows n p d q e well leads)
 
   aimed : (count : ℕ) (op : OpKind) (j : ℕ) → aims count op ≡ true → Names (op_act op) (InFrame j) → j < count
-  aimed count (Draw instr) j is n = absurd n
   aimed count (CallRom a) j is n = absurd (cc)
   aimed count (JumpRom a) j is n = absurd (cc)
   aimed count (Call k) j is n = let same : k ≡ j = cc in let less = leb-true (suc k) count is in omega (arith, same, less)
   aimed count (Jump k) j is n = let same : k ≡ j = cc in let less = leb-true (suc k) count is in omega (arith, same, less)
-  aimed count Return j is n = absurd n
-  aimed count Stop j is n = absurd n
+  aimed count _ j is n = absurd n
 
   in_all : (count : ℕ) (ops : List OpKind) (i : ℕ) (op : OpKind) → all_aim count ops ≡ true → slice_get ops i ≡ Some op
       → aims count op ≡ true
@@ -290,9 +274,8 @@ module _ (F : List OpKind) (R : List ℕ) where
   in_all count (o ∷ ops) (suc i) op all e = in_all count ops i op (both_true (aims count o) _ all).1 e
 
   has_begin : (G : List OpKind) → has_labs G ≡ true → BeginsWithLabs G
-  has_begin [] is = absurd (cc)
   has_begin (Draw (Labs x y scale) ∷ ops) is = labs
-  has_begin (op ∷ ops) is = absurd (cc)
+  has_begin _ is = absurd (cc)
 
 pub passes_accepts : PassesAccepts
 passes_accepts F R is =

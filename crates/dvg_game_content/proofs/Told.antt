@@ -179,8 +179,7 @@ module _ (R : List ℕ) (rom : ℕ → ℕ) (start : ℕ) (notes : Notes) (ways 
       lands_by Return is choice alike flow go calls more safe = free_lands ways rom new
           (ap (is_free ways) (sym alike.pc) ∙ (subst (Plain ways rom) safe.1
           (plain R rom start notes ways drafts accepted brought m.run)).0) after.y
-      lands_by Finish is choice alike flow go calls more safe = absurd (cc)
-      lands_by Wild is choice alike flow go calls more safe = absurd (cc)
+      lands_by _ is choice alike flow go calls more safe = absurd (cc)
 
     -- an instruction of the game, or of an NMI that came amid it
     pub mine_steps : (flags : ℕ → ℕ) → Play.restarts cpu ≡ false → calling (kind_of (cpu.mem cpu.pc)) here ≡ false

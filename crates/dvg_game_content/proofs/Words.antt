@@ -120,10 +120,7 @@ drawn (Svec scale dx dy z) is =
       ),
       refl,
     )
-drawn Halt is = absurd (cc)
-drawn (Jsrl a) is = absurd (cc)
-drawn Rtsl is = absurd (cc)
-drawn (Jmpl a) is = absurd (cc)
+drawn _ is = absurd (cc)
 
 held_op : (F : List OpKind) (op : OpKind) → may_hold F op ≡ true → IsOp op × IsExpressible F op
 held_op F (Draw instr) is = (drawn instr is, tt)
@@ -131,10 +128,9 @@ held_op F (CallRom a) is = let two = both_true (nat_le 0x400 a) (nat_le a 0xFFF)
     (leb-true a 0xFFF two.1, leb-true 0x400 a two.0)
 held_op F (JumpRom a) is = let two = both_true (nat_le 0x400 a) (nat_le a 0xFFF) is in
     (leb-true a 0xFFF two.1, leb-true 0x400 a two.0)
-held_op F (Call j) is = (tt, leb-true _ 0x1FF is)
-held_op F (Jump j) is = (tt, leb-true _ 0x1FF is)
 held_op F Return is = (tt, tt)
 held_op F Stop is = (tt, tt)
+held_op F _ is = (tt, leb-true _ 0x1FF is)
 
 none_op : All IsOp []
 none_op k d less = absurd (omega (arith, less))

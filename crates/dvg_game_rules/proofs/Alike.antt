@@ -102,27 +102,15 @@ reads_leads (Only Y) place cpu after st is = quiet_leads (Only Y) (size place) c
 
 takes : (sets : Sets) (mode : Processor.Mode) (cpu after : Cpu) (st : State)
     → Spares sets (Processor.size mode) cpu after → Leads (taking sets mode) cpu after st
-takes sets Processor.Immediate cpu after st is = quiet_leads sets 2 cpu after st is
-takes sets Processor.ZeroPage cpu after st is = quiet_leads sets 2 cpu after st is
-takes sets Processor.ZeroPageX cpu after st is = quiet_leads sets 2 cpu after st is
-takes sets Processor.ZeroPageY cpu after st is = quiet_leads sets 2 cpu after st is
 takes sets Processor.Absolute cpu after st is = reads_leads sets Absolute cpu after st is
 takes sets Processor.AbsoluteX cpu after st is = reads_leads sets AbsoluteIndexed cpu after st is
 takes sets Processor.AbsoluteY cpu after st is = reads_leads sets AbsoluteIndexed cpu after st is
-takes sets Processor.IndexedIndirect cpu after st is = quiet_leads sets 2 cpu after st is
-takes sets Processor.IndirectIndexed cpu after st is = quiet_leads sets 2 cpu after st is
+takes sets _ cpu after st is = quiet_leads sets 2 cpu after st is
 
 -- a byte was taken
 read : (mode : Processor.Mode) (cpu : Cpu) → Spares Nothing (Processor.size mode) cpu (reading mode cpu)
 read Processor.Immediate cpu = record { mem = refl; s = refl; kept = (refl, refl, refl); pc = refl }
-read Processor.ZeroPage cpu = record { mem = refl; s = refl; kept = (refl, refl, refl); pc = refl }
-read Processor.ZeroPageX cpu = record { mem = refl; s = refl; kept = (refl, refl, refl); pc = refl }
-read Processor.ZeroPageY cpu = record { mem = refl; s = refl; kept = (refl, refl, refl); pc = refl }
-read Processor.Absolute cpu = record { mem = refl; s = refl; kept = (refl, refl, refl); pc = refl }
-read Processor.AbsoluteX cpu = record { mem = refl; s = refl; kept = (refl, refl, refl); pc = refl }
-read Processor.AbsoluteY cpu = record { mem = refl; s = refl; kept = (refl, refl, refl); pc = refl }
-read Processor.IndexedIndirect cpu = record { mem = refl; s = refl; kept = (refl, refl, refl); pc = refl }
-read Processor.IndirectIndexed cpu = record { mem = refl; s = refl; kept = (refl, refl, refl); pc = refl }
+read _ cpu = record { mem = refl; s = refl; kept = (refl, refl, refl); pc = refl }
 
 -- it has one byte, and takes none
 passed : (cpu : Cpu) → Spares Nothing 1 cpu (Processor.next 1 cpu)
@@ -139,11 +127,7 @@ set Y byte bytes cpu one is = record { mem = is.mem; s = is.s; kept = (is.kept.0
 flagged : (flag : Processor.Flag) (to : Bool) (cpu : Cpu)
     → Spares Nothing 1 cpu (Processor.flagging flag to (Processor.next 1 cpu))
 flagged Processor.Negative to cpu = record { mem = refl; s = refl; kept = (refl, refl, refl); pc = refl }
-flagged Processor.Zero to cpu = record { mem = refl; s = refl; kept = (refl, refl, refl); pc = refl }
-flagged Processor.Carry to cpu = record { mem = refl; s = refl; kept = (refl, refl, refl); pc = refl }
-flagged Processor.Overflow to cpu = record { mem = refl; s = refl; kept = (refl, refl, refl); pc = refl }
-flagged Processor.Decimal to cpu = record { mem = refl; s = refl; kept = (refl, refl, refl); pc = refl }
-flagged Processor.Interrupt to cpu = record { mem = refl; s = refl; kept = (refl, refl, refl); pc = refl }
+flagged _ to cpu = record { mem = refl; s = refl; kept = (refl, refl, refl); pc = refl }
 
 -- a byte was written where the instruction says
 record Writes (mode : Processor.Mode) (byte : ℕ) (cpu after : Cpu) : Type 0 where
@@ -191,7 +175,6 @@ indexed cpu index small = ap (λ w. (w + index) % 65536) (next_word cpu)
 
 stores : (mode : Processor.Mode) (byte : ℕ) (cpu after : Cpu) (st : State) → IsOwn (storing mode) cpu st
     → Writes mode byte cpu after → Leads (storing mode) cpu after st
-stores Processor.Immediate byte cpu after st own is = wild cpu after st is.a is.x is.y
 stores Processor.ZeroPage byte cpu after st own is =
     at_address ZeroPage 0 byte Processor.ZeroPage cpu after st is refl refl
 stores Processor.ZeroPageX byte cpu after st own is =
@@ -204,8 +187,7 @@ stores Processor.AbsoluteX byte cpu after st own is =
     at_address AbsoluteIndexed cpu.x byte Processor.AbsoluteX cpu after st is refl (indexed cpu cpu.x own.0)
 stores Processor.AbsoluteY byte cpu after st own is =
     at_address AbsoluteIndexed cpu.y byte Processor.AbsoluteY cpu after st is refl (indexed cpu cpu.y own.1)
-stores Processor.IndexedIndirect byte cpu after st own is = wild cpu after st is.a is.x is.y
-stores Processor.IndirectIndexed byte cpu after st own is = wild cpu after st is.a is.x is.y
+stores _ byte cpu after st own is = wild cpu after st is.a is.x is.y
 
 -- a store, and a byte that is changed
 stored : (mode : Processor.Mode) (byte : ℕ) (cpu : Cpu) → Writes mode byte cpu
@@ -228,8 +210,7 @@ changed mode byte cpu =
 same_register : (from : Register) (cpu : Cpu) (st : State)
     → of_register from (ticked (of_cpu cpu st)) ≡ Processor.of_register from cpu
 same_register A cpu st = refl
-same_register X cpu st = refl
-same_register Y cpu st = refl
+same_register _ cpu st = refl
 
 transfers : (from to : Register) (cpu : Cpu) (st : State)
     → Leads (Transfer from to) cpu (Processor.does (Processor.Transfer from to) cpu) st
@@ -333,7 +314,6 @@ alike (Processor.Branch flag when) cpu st own = (
   record { a = refl; x = refl; y = refl; pc = refl; s = refl; mem = λ b. refl },
 )
 alike Processor.Jump cpu st own = jumps cpu st own
-alike Processor.JumpAt cpu st own = wild cpu _ st refl refl refl
 alike Processor.Call cpu st own = calls cpu st own
 alike Processor.Return cpu st own = (
   left_as cpu 0 0 false,
@@ -357,10 +337,9 @@ alike Processor.PullFlags cpu st own = (
 )
 alike Processor.FromStack cpu st own = quiet_leads (Only X) 1 cpu _ st (set X cpu.s 1 cpu (Processor.next 1 cpu)
     (passed cpu))
-alike Processor.ToStack cpu st own = wild cpu _ st refl refl refl
 alike Processor.Resume cpu st own = resumes cpu st own
 alike Processor.Pass cpu st own = quiet_leads Nothing 1 cpu _ st (passed cpu)
-alike Processor.Unknown cpu st own = wild cpu _ st refl refl refl
+alike _ cpu st own = wild cpu _ st refl refl refl
 
 pub steps_alike : StepsAlike
 steps_alike cpu st own = alike (decoded opcodes (cpu.mem cpu.pc)) cpu st own

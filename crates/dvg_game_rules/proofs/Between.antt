@@ -120,9 +120,6 @@ leaves (Stores mode) choice st safe go call = by (safe choice.index)
 leaves Push choice st safe go call = inr (λ b is. other (stack_place st.s) st.a st.mem b (off_stack b st.s is))
 leaves PushFlags choice st safe go call = inr (λ b is. other (stack_place st.s) choice.byte st.mem b
     (off_stack b st.s is))
-leaves Pull choice st safe go call = inr (λ b is. refl)
-leaves PullFlags choice st safe go call = inr (λ b is. refl)
-leaves Branch choice st safe go call = inr (λ b is. refl)
 leaves Jump choice st safe go call = by (is_driver to) call
   where
     to : ℕ
@@ -144,15 +141,14 @@ leaves Call choice st safe go call = by (is_driver to) call
         other (stack_place (st.s + 255)) ((st.pc + 2) % 256) (put (stack_place st.s) ((st.pc + 2) / 256) st.mem) b
         (off_stack b (st.s + 255) held)
         ∙ other (stack_place st.s) ((st.pc + 2) / 256) st.mem b (off_stack b st.s held))
-leaves Return choice st safe go call = inr (λ b is. refl)
 leaves Finish choice st safe go call = inr (λ b is. home_mem st.home
     (record (ticked st) { pc = resumed_at st; s = (st.s + 3) % 256; amid = None; home = None }) b)
 leaves Wild choice st safe go call = absurd safe
+leaves _ choice st safe go call = inr (λ b is. refl)
 
 not_both : (t u : Bool) → u ≡ false → (t && not u) ≡ false → t ≡ false
-not_both true false one two = absurd (cc)
 not_both false u one two = refl
-not_both true true one two = absurd (cc)
+not_both true _ one two = absurd (cc)
 
 pub leaves_alone : LeavesAlone
 unfolding Leaves

@@ -21,13 +21,11 @@ use Rattle.dvg_game_rules.proofs.Stepping.{later, vector}
 -- the levels of two tests are one
 pub two_levels : (l : Level) → l ≡ Nmi → same_level l Sub ≡ true → ⊥
 two_levels Main is sub = absurd (cc)
-two_levels Sub is sub = absurd (cc)
-two_levels Nmi is sub = absurd (cc)
+two_levels _ is sub = absurd (cc)
 
 pub is_nmi : (l : Level) → l ≡ Nmi → not (same_level l Nmi) ≡ true → ⊥
 is_nmi Main is out = absurd (cc)
-is_nmi Sub is out = absurd (cc)
-is_nmi Nmi is out = absurd (cc)
+is_nmi _ is out = absurd (cc)
 
 -- what an NMI calls of the driver is refused
 pub not_entered : (to : ℕ) (now : Note) → now.level ≡ Nmi → enters to now ≡ true → ⊥

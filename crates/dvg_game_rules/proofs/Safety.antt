@@ -70,9 +70,8 @@ may st Sub a out outside closed is = one (either (is_free a) _ is)
 may st Nmi a out outside closed is = absurd (out refl)
 
 pub may_nmi : (st : State) (level : Level) (a : ℕ) → level ≡ Nmi → may_write level a ≡ true → MayWrite st a
-may_nmi st Main a is fine = absurd (cc)
-may_nmi st Sub a is fine = absurd (cc)
 may_nmi st Nmi a is fine = inl fine
+may_nmi st _ a is fine = absurd (cc)
 
 not_blank : (t u : Bool) → (t ≡ true → u ≡ true) → not u ≡ true → t ≡ false
 not_blank true u up is = let e = up refl in absurd (cc)
@@ -130,11 +129,9 @@ module _ (rom : ℕ → ℕ) (notes : Notes) (st : State) (loaded : IsLoaded rom
       }
 
   pub run_safe : (kind : Kind) → fine_by kind notes rom st.pc runs.stands.now ≡ true → IsSafeBy kind st
-  run_safe (Quiet sets bytes) fine = tt
   run_safe (Reads sets place) fine = λ index. not_true (is_strobe (address place st.mem st.pc index))
       (reaching place rom st.mem st.pc index (λ a. not (is_strobe a)) first second
       (both_true (of_reached place rom st.pc (λ a. not (is_strobe a))) _ fine).0)
-  run_safe (Transfer from to) fine = tt
   run_safe PushFlags fine = let r = room in omega (arith, r)
   run_safe PullFlags fine =
       let some = leb-true 1 runs.stands.now.depth (both_true (nat_le 1 runs.stands.now.depth) _ fine).0 in
@@ -149,7 +146,6 @@ module _ (rom : ℕ → ℕ) (notes : Notes) (st : State) (loaded : IsLoaded rom
   run_safe Pull fine =
       let some = leb-true 1 runs.stands.now.depth (both_true (nat_le 1 runs.stands.now.depth) _ fine).0 in
       let high = s_top in omega (arith, some, high)
-  run_safe Branch fine = tt
   run_safe Jump fine = first_by (nat_eq to (word_at st.mem reset_vector)) (subst (λ v. whole_of to v ≡ true) (sym
       (vector rom notes st loaded))
       (subst (λ w. whole_of w (word_at rom reset_vector) ≡ true) word fine))
@@ -212,17 +208,16 @@ module _ (rom : ℕ → ℕ) (notes : Notes) (st : State) (loaded : IsLoaded rom
   run_safe Finish fine = absurd (no_nmi (same runs.stands.now.level Nmi
       (both_true (same_level runs.stands.now.level Nmi) _ fine).0))
   run_safe Wild fine = absurd (cc)
+  run_safe _ fine = tt
 
 module _ (rom : ℕ → ℕ) (notes : Notes) (st : State) (loaded : IsLoaded rom st.mem)
     (h : Handles notes st) where
   pub nmi_safe : (kind : Kind) → fine_by kind notes rom st.pc h.now ≡ true → IsSafeBy kind st
-  nmi_safe (Quiet sets bytes) fine = tt
   nmi_safe (Reads sets place) fine = λ index. not_true (is_strobe (address place st.mem st.pc index))
       (reaching place rom st.mem st.pc index (λ a. not (is_strobe a))
       (first_there rom st.mem st.pc loaded (placed notes st.pc h.now h.is))
       (second_there rom st.mem st.pc loaded (placed notes st.pc h.now h.is))
       (both_true (of_reached place rom st.pc (λ a. not (is_strobe a))) _ fine).0)
-  nmi_safe (Transfer from to) fine = tt
   nmi_safe PushFlags fine =
       let some = leb-true 1 h.now.room (both_true (nat_le 1 h.now.room) _ fine).0 in
       let r = h.room in omega (arith, some, r)
@@ -240,7 +235,6 @@ module _ (rom : ℕ → ℕ) (notes : Notes) (st : State) (loaded : IsLoaded rom
   nmi_safe Pull fine =
       let some = leb-true 1 h.now.depth (both_true (nat_le 1 h.now.depth) _ fine).0 in
       let high = nmi_low rom notes st loaded h in omega (arith, some, high)
-  nmi_safe Branch fine = tt
   nmi_safe Jump fine = first_by (nat_eq to (word_at st.mem reset_vector))
       (subst (λ v. whole_of to v ≡ true) (sym (vector rom notes st loaded))
       (subst (λ w. whole_of w (word_at rom reset_vector) ≡ true) (sym (nmi_word rom notes st loaded h)) fine))
@@ -283,3 +277,4 @@ module _ (rom : ℕ → ℕ) (notes : Notes) (st : State) (loaded : IsLoaded rom
       h.amid ∙ ap (λ c. Some c) (all_same h.came (resumed_at st) ((st.s + 3) % 256) (st.mem (stack_place (st.s + 1)))
       st.a st.x st.y pc s p (sym back.0) (sym back.1) (sym back.2))
   nmi_safe Wild fine = absurd (cc)
+  nmi_safe _ fine = tt

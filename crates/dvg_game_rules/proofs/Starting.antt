@@ -54,37 +54,14 @@ module _ (rom : ℕ → ℕ) (cpu : Cpu) (loaded : IsLoaded rom cpu.mem) (at : I
   boot_safe (Stores ZeroPage) fine = stores_safe ZeroPage fine
   boot_safe (Stores ZeroPageIndexed) fine = stores_safe ZeroPageIndexed fine
   boot_safe (Stores Absolute) fine = stores_safe Absolute fine
-  boot_safe (Stores AbsoluteIndexed) fine = absurd (cc)
-  boot_safe (Transfer from to) fine = absurd (cc)
-  boot_safe Push fine = absurd (cc)
-  boot_safe PushFlags fine = absurd (cc)
-  boot_safe Pull fine = absurd (cc)
-  boot_safe PullFlags fine = absurd (cc)
-  boot_safe Branch fine = absurd (cc)
-  boot_safe Jump fine = absurd (cc)
-  boot_safe Call fine = absurd (cc)
-  boot_safe Return fine = absurd (cc)
-  boot_safe Finish fine = absurd (cc)
-  boot_safe Wild fine = absurd (cc)
+  boot_safe _ fine = absurd (cc)
 
   boot_own : (kind : Kind) → may_boot kind rom cpu.pc ≡ true → IsOwn kind cpu (idle cpu)
-  boot_own (Quiet sets bytes) fine = tt
-  boot_own (Reads sets place) fine = tt
-  boot_own (Stores ZeroPage) fine = tt
-  boot_own (Stores ZeroPageIndexed) fine = tt
-  boot_own (Stores Absolute) fine = tt
   boot_own (Stores AbsoluteIndexed) fine = absurd (cc)
-  boot_own (Transfer from to) fine = tt
-  boot_own Push fine = tt
-  boot_own PushFlags fine = tt
-  boot_own Pull fine = tt
-  boot_own PullFlags fine = tt
-  boot_own Branch fine = tt
   boot_own Jump fine = absurd (cc)
   boot_own Call fine = absurd (cc)
-  boot_own Return fine = tt
   boot_own Finish fine = absurd (cc)
-  boot_own Wild fine = tt
+  boot_own _ fine = tt
 
   quiet_goes : (sets : Sets) (bytes : ℕ) (choice : Choice)
       → Goes rom (cpu.pc + bytes) cpu.s (does (Quiet sets bytes) choice (ticked (idle cpu)))
@@ -122,18 +99,7 @@ module _ (rom : ℕ → ℕ) (cpu : Cpu) (loaded : IsLoaded rom cpu.mem) (at : I
   boot_goes (Stores ZeroPage) choice fine = stores_goes ZeroPage choice fine
   boot_goes (Stores ZeroPageIndexed) choice fine = stores_goes ZeroPageIndexed choice fine
   boot_goes (Stores Absolute) choice fine = stores_goes Absolute choice fine
-  boot_goes (Stores AbsoluteIndexed) choice fine = absurd (cc)
-  boot_goes (Transfer from to) choice fine = absurd (cc)
-  boot_goes Push choice fine = absurd (cc)
-  boot_goes PushFlags choice fine = absurd (cc)
-  boot_goes Pull choice fine = absurd (cc)
-  boot_goes PullFlags choice fine = absurd (cc)
-  boot_goes Branch choice fine = absurd (cc)
-  boot_goes Jump choice fine = absurd (cc)
-  boot_goes Call choice fine = absurd (cc)
-  boot_goes Return choice fine = absurd (cc)
-  boot_goes Finish choice fine = absurd (cc)
-  boot_goes Wild choice fine = absurd (cc)
+  boot_goes _ choice fine = absurd (cc)
 
   -- where the processor is after that step
   pub steps_on : may_boot (kind_of (cpu.mem cpu.pc)) rom cpu.pc ≡ true

@@ -109,18 +109,7 @@ calling_room rom notes st now Call word to_reset fine is go =
         && leads notes (st.pc + 3) (record now { blank = ends_of (noted notes to) })))) ≡ true → 4 ≤ now.room
     by true is fine = enters_room to now (both_true (enters to now) _ fine).0
     by false is fine = absurd (cc)
-calling_room rom notes st now (Quiet sets bytes) word to_reset fine is go = absurd (cc)
-calling_room rom notes st now (Reads sets place) word to_reset fine is go = absurd (cc)
-calling_room rom notes st now (Transfer from to) word to_reset fine is go = absurd (cc)
-calling_room rom notes st now (Stores mode) word to_reset fine is go = absurd (cc)
-calling_room rom notes st now Push word to_reset fine is go = absurd (cc)
-calling_room rom notes st now PushFlags word to_reset fine is go = absurd (cc)
-calling_room rom notes st now Pull word to_reset fine is go = absurd (cc)
-calling_room rom notes st now PullFlags word to_reset fine is go = absurd (cc)
-calling_room rom notes st now Branch word to_reset fine is go = absurd (cc)
-calling_room rom notes st now Return word to_reset fine is go = absurd (cc)
-calling_room rom notes st now Finish word to_reset fine is go = absurd (cc)
-calling_room rom notes st now Wild word to_reset fine is go = absurd (cc)
+calling_room rom notes st now _ word to_reset fine is go = absurd (cc)
 
 good_within : (rom : ℕ → ℕ) (start : ℕ) (notes : Notes) (st : State) (choice : Choice)
     → accepts_game rom start notes ≡ true

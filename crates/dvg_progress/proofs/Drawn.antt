@@ -33,8 +33,7 @@ module _ (R image : List ℕ) (before : Log) where
       × Throughout (λ log event entry. NotDone entry) later
 
   abbrev pub IsOver : Log → Type 0
-  IsOver later = (open_run (later ++ before) ≡ None) × (F : List OpKind) × (n : ℕ)
-      × DrawsOnce F R n before later
+  IsOver later = (open_run (later ++ before) ≡ None) × (F : List OpKind) × (n : ℕ) × DrawsOnce F R n before later
 
   -- the run is finished
   finished : (later : Log) (a w : ℕ) (drew : List Stroke)
@@ -55,11 +54,7 @@ module _ (R image : List ℕ) (before : Log) where
   open_step later Fetch (Broke a fault) l runs is =
       absurd (never_faults R image ((Fetch ⟼ Broke a fault) ∷ later ++ before) l).0
   open_step later Fetch (Fetched a w) l runs is =
-      inl (
-        (a, w) ∷ is.0,
-        ap (option_map (λ fetches. (a, w) ∷ fetches)) is.1,
-        (λ a w drew e. cc, is.2),
-      )
+      inl ((a, w) ∷ is.0, ap (option_map (λ fetches. (a, w) ∷ fetches)) is.1, (λ a w drew e. cc, is.2))
   open_step later Fetch (Low a b) l runs is = inl (is.0, is.1, (λ a w drew e. cc, is.2))
   open_step later Fetch Still l runs is = inl (is.0, is.1, (λ a w drew e. cc, is.2))
   open_step later (Offer F) (Refused fault) l runs is = inl (is.0, is.1, (λ a w drew e. cc, is.2))
@@ -82,8 +77,7 @@ module _ (R image : List ℕ) (before : Log) where
       absurd (none_wanted R image (later ++ before) a l.2 is.0 l.0.1.asked)
   over_step later Fetch (Broke a fault) l runs is =
       absurd (none_wanted R image (later ++ before) a l.2 is.0 l.0.2.asked)
-  over_step later Fetch (Fetched a w) l runs is =
-      absurd (none_wanted R image (later ++ before) a l.2 is.0 l.0.1.asked)
+  over_step later Fetch (Fetched a w) l runs is = absurd (none_wanted R image (later ++ before) a l.2 is.0 l.0.1.asked)
   over_step later Fetch (Low a b) l runs is = (is.0, is.1, is.2, is.3)
   over_step later Fetch Still l runs is = (is.0, is.1, is.2, is.3)
   over_step later (Offer F) (Refused fault) l runs is = (is.0, is.1, is.2, is.3)
@@ -109,8 +103,7 @@ module _ (R image : List ℕ) (before : Log) where
   pub run_on : (words : List (ℕ × ℕ)) → open_run before ≡ Some words → (later : Log)
       → IsLegal R image (later ++ before) → Throughout RunsOn later → IsOpen later ⊎ IsOver later
   run_on words o [] l runs = inl (words, o, tt)
-  run_on words o ((event ⟼ entry) ∷ later) l runs =
-      both later event entry l runs.0 (run_on words o later l.2 runs.1)
+  run_on words o ((event ⟼ entry) ∷ later) l runs = both later event entry l runs.0 (run_on words o later l.2 runs.1)
 
 pub at_end : (R image : List ℕ) (before later : Log) → open_run (later ++ before) ≡ None
     → IsOpen R image before later ⊎ IsOver R image before later → (F : List OpKind) × (n : ℕ)

@@ -102,10 +102,7 @@ waits_apart (action ∷ actions) = ((λ e. cc, (λ e. cc, tt)), waits_apart acti
 
 pub fetches_apart : (words : List (ℕ × ℕ × ℕ)) → Without (Strobe ∷ ResetGen ∷ []) (fetched words)
 fetches_apart [] = tt
-fetches_apart (it ∷ words) = (
-  (λ e. cc, (λ e. cc, tt)),
-  ((λ e. cc, (λ e. cc, tt)), fetches_apart words),
-)
+fetches_apart (it ∷ words) = ((λ e. cc, (λ e. cc, tt)), ((λ e. cc, (λ e. cc, tt)), fetches_apart words))
 
 pub draws_apart : Without (Strobe ∷ ResetGen ∷ []) draws
 draws_apart = ((λ e. cc, (λ e. cc, tt)), ((λ e. cc, (λ e. cc, tt)), fetches_apart words))
@@ -118,8 +115,7 @@ pub ticks_accept : (actions : List Action) → NoFrame (did actions)
 ticks_accept [] = tt
 ticks_accept (action ∷ actions) = (λ e. cc, ticks_accept actions)
 
-pub fetches_accept : (words : List (ℕ × ℕ × ℕ)) (log : Log) → NoFrame log
-    → NoFrame (fetched words ++ log)
+pub fetches_accept : (words : List (ℕ × ℕ × ℕ)) (log : Log) → NoFrame log → NoFrame (fetched words ++ log)
 fetches_accept [] log none = none
 fetches_accept (it ∷ words) log none = (λ e. cc, (λ e. cc, fetches_accept words log none))
 
@@ -140,8 +136,7 @@ bound =
 
 -- 12 ticks after the offer, which are 2 * 5 + 2, the frame is published
 pub is_published : published (writes ++ accepted) ≡ Some frame
-is_published = (published_in_time zeros zeros booted writes frame begun_legal.2.2.2
-    (ticks_apart all_writes) refl).1
+is_published = (published_in_time zeros zeros booted writes frame begun_legal.2.2.2 (ticks_apart all_writes) refl).1
 
 -- the two ticks after the flip
 pub is_sent : ◌≡◌ {A = Shown} (Acted (Read true)) (Acted (Read true)) × ◌≡◌ {A = Shown} (Acted Sent) (Acted Sent)
@@ -163,11 +158,7 @@ pub is_shown : DrawsOnce frame zeros 6 begun draws
 is_shown =
     shown_in_time zeros zeros frame 6 booted writes [] sends draws Started legal (
       λ e. cc,
-      (
-        λ e. cc,
-        fetches_accept words (sends ++ writes)
-            (ticks_accept (sending ++ all_writes)),
-      ),
+      (λ e. cc, fetches_accept words (sends ++ writes) (ticks_accept (sending ++ all_writes))),
     )
     (ticks_apart all_writes) (lit≤ tt) (λ G m is_open shown bound. absurd (is_open refl))
     (waits_apart sending) (lit≤ tt) bound draws_apart (lit≤ tt)
@@ -190,5 +181,4 @@ is_unstuck =
 pub did_more : (log : Log) (action : Action) (to : Place) → IsLegal zeros zeros log
     → place_of_life (Did action ∷ life zeros log) ≡ Some to → Tells action (is_none (open_run log))
     → IsLegal zeros zeros ((Tick ⟼ Acted action) ∷ log)
-did_more log action to l stands tells =
-    ((place_life (Did action ∷ life zeros log) to stands, tells), tt, l)
+did_more log action to l stands tells = ((place_life (Did action ∷ life zeros log) to stands, tells), tt, l)

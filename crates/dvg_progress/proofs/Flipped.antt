@@ -27,8 +27,7 @@ both_end : (writes more : List (ℕ × ℕ)) → EndsInFlip more → EndsInFlip 
 both_end [] more ends = ends
 both_end (write ∷ writes) more ends = past (both_end writes more ends)
 
-pub frame_ends : (half : Half) (F : List OpKind) (first : Bool)
-    → EndsInFlip (frame_writes half F first)
+pub frame_ends : (half : Half) (F : List OpKind) (first : Bool) → EndsInFlip (frame_writes half F first)
 frame_ends half F first = both_end (addressed (2 * base half) (bytes (laid half F)))
     (word_zero half first) (zero_ends half first)
 
@@ -48,10 +47,8 @@ none_end : EndsInFlip [] → ⊥
 none_end ends = elim ends [ ]
 
 after_one : (write : ℕ × ℕ) (writes : List (ℕ × ℕ)) (a byte : ℕ) (to : Place) (flipped : Bool)
-    → EndsInFlip (write ∷ writes) → write.0 ≡ a → with_left writes ≡ to
-    → Has to (nat_eq a 1 || flipped)
-after_one write [] a byte to flipped here at left =
-    subst (λ p. Has p (nat_eq a 1 || flipped)) left (rw (← at) refl)
+    → EndsInFlip (write ∷ writes) → write.0 ≡ a → with_left writes ≡ to → Has to (nat_eq a 1 || flipped)
+after_one write [] a byte to flipped here at left = subst (λ p. Has p (nat_eq a 1 || flipped)) left (rw (← at) refl)
 after_one write [] a byte to flipped (past ends) at left = absurd (none_end ends)
 after_one write (next ∷ writes) a byte to flipped (past ends) at left =
     subst (λ p. Has p (nat_eq a 1 || flipped)) left ends
@@ -59,38 +56,27 @@ after_one write (next ∷ writes) a byte to flipped (past ends) at left =
 step : (place to : Place) (item : Item) (flipped : Bool) → next_place place item ≡ Some to
     → Has place flipped → Has to (flips item || flipped)
 step Start to (Did Peek) flipped next has = subst (λ p. Has p flipped) (same_Some _ _ next) tt
-step Booting to (Did (Read true)) flipped next has =
-    subst (λ p. Has p flipped) (same_Some _ _ next) tt
-step Booting to (Did (Read false)) flipped next has =
-    subst (λ p. Has p flipped) (same_Some _ _ next) tt
+step Booting to (Did (Read true)) flipped next has = subst (λ p. Has p flipped) (same_Some _ _ next) tt
+step Booting to (Did (Read false)) flipped next has = subst (λ p. Has p flipped) (same_Some _ _ next) tt
 step (Resting first) to (Offered half F) flipped next has =
     subst (λ p. Has p flipped) (same_Some _ _ next) (frame_ends half F first)
 step (Resting true) to Asked flipped next has = subst (λ p. Has p flipped) (same_Some _ _ next) tt
 step (Resting false) to Asked flipped next has = subst (λ p. Has p flipped) (same_Some _ _ next) has
-step (Resting true) to (Did Idle) flipped next has =
-    subst (λ p. Has p flipped) (same_Some _ _ next) tt
-step (Resting false) to (Did Idle) flipped next has =
-    subst (λ p. Has p flipped) (same_Some _ _ next) has
+step (Resting true) to (Did Idle) flipped next has = subst (λ p. Has p flipped) (same_Some _ _ next) tt
+step (Resting false) to (Did Idle) flipped next has = subst (λ p. Has p flipped) (same_Some _ _ next) has
 step (Writing []) to (Did (Wrote a byte)) flipped next has = absurd (none_end has)
 step (Writing (write ∷ writes)) to (Did (Wrote a byte)) flipped next has = let is =
     written write.0 a write.1 byte writes to next in
     after_one write writes a byte to flipped has is.0 is.2
-step (Waiting true) to (Did (Read true)) flipped next has =
-    subst (λ p. Has p flipped) (same_Some _ _ next) tt
-step (Waiting true) to (Did (Read false)) flipped next has =
-    subst (λ p. Has p flipped) (same_Some _ _ next) tt
-step (Waiting false) to (Did (Read true)) flipped next has =
-    subst (λ p. Has p flipped) (same_Some _ _ next) has
-step (Waiting false) to (Did (Read false)) flipped next has =
-    subst (λ p. Has p flipped) (same_Some _ _ next) has
-step (Sending true) to (Did Sent) flipped next has =
-    subst (λ p. Has p flipped) (same_Some _ _ next) tt
-step (Sending false) to (Did Sent) flipped next has =
-    subst (λ p. Has p flipped) (same_Some _ _ next) has
+step (Waiting true) to (Did (Read true)) flipped next has = subst (λ p. Has p flipped) (same_Some _ _ next) tt
+step (Waiting true) to (Did (Read false)) flipped next has = subst (λ p. Has p flipped) (same_Some _ _ next) tt
+step (Waiting false) to (Did (Read true)) flipped next has = subst (λ p. Has p flipped) (same_Some _ _ next) has
+step (Waiting false) to (Did (Read false)) flipped next has = subst (λ p. Has p flipped) (same_Some _ _ next) has
+step (Sending true) to (Did Sent) flipped next has = subst (λ p. Has p flipped) (same_Some _ _ next) tt
+step (Sending false) to (Did Sent) flipped next has = subst (λ p. Has p flipped) (same_Some _ _ next) has
 step _ to _ flipped next has = absurd (cc)
 
-has_at : (life : List Item) (place : Place) → place_of_life life ≡ Some place
-    → Has place (has_flip life)
+has_at : (life : List Item) (place : Place) → place_of_life life ≡ Some place → Has place (has_flip life)
 has_at [] place stands = subst (λ p. Has p false) (same_Some _ _ stands) tt
 has_at (item ∷ life) place stands =
     let before = place_before item life place stands in

@@ -24,8 +24,7 @@ use Rattle.dvg_theorem.proofs.Bytes.{byte}
 use Rattle.dvg_theorem.proofs.Words.{words_are_whole}
 
 -- each legal log leaves a run
-pub leaves_of : (R image : List ℕ) (log : Log) → IsLegal R image log → (run : Newest)
-    × Leaves (history R image log) run
+pub leaves_of : (R image : List ℕ) (log : Log) → IsLegal R image log → (run : Newest) × Leaves (history R image log) run
 leaves_of R image [] l = (_, new)
 leaves_of R image ((event ⟼ Started) ∷ log) l = let before = leaves_of R image log l.2 in
     (begun before.0, starts before.1)
@@ -37,8 +36,7 @@ leaves_of R image ((Fetch ⟼ Fetched a w) ∷ log) l = (l.0.1.later, l.0.1.leav
 leaves_of R image ((Fetch ⟼ Done a w drew) ∷ log) l = (l.0.1.later, l.0.1.leaves_later)
 leaves_of R image ((Fetch ⟼ Broke a fault) ∷ log) l = (
   l.0.2.later,
-  subst (λ word. Leaves (Fed word ∷ history R image log) l.0.2.later)
-      (sym (ap word_of l.0.1)) l.0.2.leaves_later,
+  subst (λ word. Leaves (Fed word ∷ history R image log) l.0.2.later) (sym (ap word_of l.0.1)) l.0.2.leaves_later,
 )
 leaves_of R image ((event ⟼ Fetched a w) ∷ log) l = absurd l.0
 leaves_of R image ((event ⟼ Done a w drew) ∷ log) l = absurd l.0
@@ -48,8 +46,7 @@ leaves_of R image ((event ⟼ entry) ∷ log) l = leaves_of R image log l.2
 -- the two bytes of a word
 low_met : (bytes R : List ℕ) (a w : ℕ) → fetched bytes R a ≡ Some w
     → met None (fetched_byte bytes R a false) ≡ Waits (w % 256)
-low_met bytes R a w is = ap (λ word. met None
-    (option_map (λ word. if false then word / 256 else word % 256) word)) is
+low_met bytes R a w is = ap (λ word. met None (option_map (λ word. if false then word / 256 else word % 256) word)) is
 
 high_met : (bytes R : List ℕ) (a w : ℕ) → fetched bytes R a ≡ Some w
     → met (Some (w % 256)) (fetched_byte bytes R a true) ≡ Whole (Some w)
@@ -97,8 +94,7 @@ module _ (R image : List ℕ) (before : Log) where
       asked : IsWanted (history R image (later ++ start)) (wanted visits held)
 
   ask : (beam : Beam) (later : Log) (count : ℕ) (visits : List Visit) (held : Option ℕ) (w : ℕ)
-      → Followed beam later count visits held
-      → fetched (ram image before) R (wanted visits held) ≡ Some w
+      → Followed beam later count visits held → fetched (ram image before) R (wanted visits held) ≡ Some w
       → Asked beam later visits held w
   ask beam later count visits held w f is =
       let a = wanted visits held in
@@ -139,11 +135,9 @@ module _ (R image : List ℕ) (before : Log) where
             asked.met_is,
             record {
               asked = asked.asked;
-              later =
-                  grown run visits' held';
+              later = grown run visits' held';
               leaves_later = leaves;
-              replies =
-                  more_by held' (fate visits') (strokes beam visits') goes;
+              replies = more_by held' (fate visits') (strokes beam visits') goes;
             },
           ),
           tt,
@@ -178,8 +172,7 @@ module _ (R image : List ℕ) (before : Log) where
   end_it : (beam : Beam) (later : Log) (count : ℕ) (visits visits' : List Visit) (held : Option ℕ)
       (w : ℕ) → Followed beam later count visits held
       → fetched (ram image before) R (wanted visits held) ≡ Some w
-      → Adds visits held w visits' None → fate visits' ≡ Finished
-      → Over (suc count) (strokes beam visits')
+      → Adds visits held w visits' None → fate visits' ≡ Finished → Over (suc count) (strokes beam visits')
   end_it beam later count visits visits' held w f is adds finished =
       let asked = ask beam later count visits held w f is in
       let run : Newest = record { first = beam; visits = visits; held = held; is_open = true } in
@@ -193,11 +186,9 @@ module _ (R image : List ℕ) (before : Log) where
             asked.met_is,
             record {
               asked = asked.asked;
-              later =
-                  grown run visits' None;
+              later = grown run visits' None;
               leaves_later = takes f.leaves refl adds;
-              replies =
-                  drew_by (fate visits') (strokes beam visits') finished;
+              replies = drew_by (fate visits') (strokes beam visits') finished;
             },
           ),
           tt,
@@ -258,8 +249,7 @@ module _ (R image : List ℕ) (before : Log) where
 
     over_by : (n : ℕ) (visits : List Visit) (held : Option ℕ) → Runs memory n visits held
         → held ≡ None → fate visits ≡ Finished → Over n (strokes first visits)
-    over_by n visits held begins whole finished =
-        absurd (let clash : Goes ≡ Finished = finished in cc)
+    over_by n visits held begins whole finished = absurd (let clash : Goes ≡ Finished = finished in cc)
     over_by n visits held (fetches {count = count} {word = w} {visits = visits0} {held = held0} runs
         goes0 is adds) whole finished =
         let before = follow runs goes0 in
@@ -281,8 +271,7 @@ pub record Draws (R image : List ℕ) (log : Log) : Type 0 where
   pub picture : IsPicture draft R drew n
   pub done : Over R image log n drew
 
-pub can_draw : (R image : List ℕ) (log : Log) → IsLegal R image log → strobed log ≡ true
-    → Draws R image log
+pub can_draw : (R image : List ℕ) (log : Log) → IsLegal R image log → strobed log ≡ true → Draws R image log
 can_draw R image log l sent =
     let whole = words_are_whole R image log l in
     let k = (kept R image log l whole).1 in
@@ -298,6 +287,5 @@ can_draw R image log l sent =
       n = it.1;
       drew = it.0;
       picture = it.2;
-      done = over R image log half now.draft now.checked now.holds (ap Some (sym jumps))
-          (sent, tt, l) it.1 it.0 it.2;
+      done = over R image log half now.draft now.checked now.holds (ap Some (sym jumps)) (sent, tt, l) it.1 it.0 it.2;
     }

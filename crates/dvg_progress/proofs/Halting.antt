@@ -31,8 +31,7 @@ not_begun v vs e = cc
 pub counted : (R image : List ℕ) (log : Log) (words : List (ℕ × ℕ)) → IsLegal R image log
     → open_run log ≡ Some words → fetched_since log ≡ fetch_count words (low_byte log)
 counted R image [] words l o = absurd (none-some words o)
-counted R image ((event ⟼ Started) ∷ log) words l o =
-    subst (λ ws. 0 ≡ fetch_count ws None) (same_Some _ _ o) refl
+counted R image ((event ⟼ Started) ∷ log) words l o = subst (λ ws. 0 ≡ fetch_count ws None) (same_Some _ _ o) refl
 counted R image ((ResetGen ⟼ entry) ∷ log) words l o = absurd (none-some words o)
 counted R image ((ResetAll bytes ⟼ entry) ∷ log) words l o = absurd (none-some words o)
 counted R image ((Fetch ⟼ Low a b) ∷ log) words l o =
@@ -64,16 +63,14 @@ counted R image ((ResetCpu ⟼ Cleared) ∷ log) words l o = counted R image log
 counted R image ((event ⟼ entry) ∷ log) words l o = absurd l.0
 
 -- a picture has a word at least
-few : (low : Option ℕ) (F : List OpKind) (R : List ℕ) (n : ℕ) → IsBound F R n
-    → fetch_count [] low < 2 * n
+few : (low : Option ℕ) (F : List OpKind) (R : List ℕ) (n : ℕ) → IsBound F R n → fetch_count [] low < 2 * n
 few None F R n bound = let count = bound.1.count in omega arith
 few (Some byte) F R n bound = let count = bound.1.count in omega arith
 
 -- a fetch that doesn't end the run is before the last one
 before_last : (R : List ℕ) (log : Log) (entry : Shown) (words : List (ℕ × ℕ)) (F : List OpKind)
     (n number : ℕ) → KeepsTime R log Fetch entry → open_run log ≡ Some words → IsShown log F
-    → IsBound F R n
-    → ((number more : ℕ) (drew : List Stroke) → EndsAt number drew more entry → number < 2 * more)
+    → IsBound F R n → ((number more : ℕ) (drew : List Stroke) → EndsAt number drew more entry → number < 2 * more)
     → number ≡ suc (fetch_count words (low_byte log)) → number < 2 * n
 before_last R log entry words F n number keeps o shown bound ends is =
     let early = ends _ n bound.0 (keeps words F bound.0 n o shown bound.1) in
@@ -94,8 +91,7 @@ under R image log [] F n l o shown b = few (low_byte log) F R n b
 under R image [] (v ∷ vs) F n l o shown b = absurd (none-some (v ∷ vs) o)
 under R image ((event ⟼ Started) ∷ log) (v ∷ vs) F n l o shown b = absurd (not_begun v vs o)
 under R image ((ResetGen ⟼ entry) ∷ log) (v ∷ vs) F n l o shown b = absurd (none-some (v ∷ vs) o)
-under R image ((ResetAll bytes ⟼ entry) ∷ log) (v ∷ vs) F n l o shown b =
-    absurd (none-some (v ∷ vs) o)
+under R image ((ResetAll bytes ⟼ entry) ∷ log) (v ∷ vs) F n l o shown b = absurd (none-some (v ∷ vs) o)
 under R image ((Fetch ⟼ Low a y) ∷ log) (v ∷ vs) F n l o shown b =
     let line = (Fetch ⟼ Low a y) ∷ log in
     let paired = (words_are_paired R image line l).0 in
@@ -114,12 +110,9 @@ under R image ((Fetch ⟼ Fetched a w) ∷ log) (v ∷ vs) F n l o shown b =
     before_last R log (Fetched a w) q.0 F n (2 * length (v ∷ vs)) (always_in_time R image line l).0
     q.1 (still_shown Fetch (Fetched a w) log v vs F o shown) b (λ number more drew early. early)
     (omega arith)
-under R image ((Fetch ⟼ Still) ∷ log) (v ∷ vs) F n l o shown b =
-    absurd (none-some (v ∷ vs) (sym l.0 ∙ o))
-under R image ((event ⟼ Done a w drew) ∷ log) (v ∷ vs) F n l o shown b =
-    absurd (none-some (v ∷ vs) o)
-under R image ((event ⟼ Broke a fault) ∷ log) (v ∷ vs) F n l o shown b =
-    absurd (none-some (v ∷ vs) o)
+under R image ((Fetch ⟼ Still) ∷ log) (v ∷ vs) F n l o shown b = absurd (none-some (v ∷ vs) (sym l.0 ∙ o))
+under R image ((event ⟼ Done a w drew) ∷ log) (v ∷ vs) F n l o shown b = absurd (none-some (v ∷ vs) o)
+under R image ((event ⟼ Broke a fault) ∷ log) (v ∷ vs) F n l o shown b = absurd (none-some (v ∷ vs) o)
 under R image ((Offer G ⟼ Refused fault) ∷ log) (v ∷ vs) F n l o shown b =
     under R image log (v ∷ vs) F n l.2 o (still_shown (Offer G) (Refused fault) log v vs F o shown)
     b
@@ -141,8 +134,7 @@ under R image ((ResetCpu ⟼ Cleared) ∷ log) (v ∷ vs) F n l o shown b =
     under R image log (v ∷ vs) F n l.2 o (still_shown ResetCpu Cleared log v vs F o shown) b
 under R image ((event ⟼ entry) ∷ log) (v ∷ vs) F n l o shown b = absurd l.0
 
-pub some_run : (run : Option (List (ℕ × ℕ))) → run ≢ None → (words : List (ℕ × ℕ))
-    × (run ≡ Some words)
+pub some_run : (run : Option (List (ℕ × ℕ))) → run ≢ None → (words : List (ℕ × ℕ)) × (run ≡ Some words)
 some_run None is_open = absurd (is_open refl)
 some_run (Some words) is_open = (words, refl)
 

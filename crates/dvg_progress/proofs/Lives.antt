@@ -34,14 +34,12 @@ NotStrobe log Strobe entry = ⊥
 NotStrobe log event entry = Unit {0}
 
 -- the newer lines, and the older ones
-pub newer : (events : List Happening) (one other : Log) → Without events (one ++ other)
-    → Without events one
+pub newer : (events : List Happening) (one other : Log) → Without events (one ++ other) → Without events one
 newer events [] other without = tt
 newer events ((ResetAll bytes ⟼ entry) ∷ one) other without = without
 newer events ((event ⟼ entry) ∷ one) other without = (without.0, newer events one other without.1)
 
-pub older : (events : List Happening) (one other : Log) → Without events (one ++ other)
-    → Without events other
+pub older : (events : List Happening) (one other : Log) → Without events (one ++ other) → Without events other
 older events [] other without = without
 older events ((ResetAll bytes ⟼ entry) ∷ one) other without = absurd without
 older events ((event ⟼ entry) ∷ one) other without = older events one other without.1
@@ -81,8 +79,7 @@ no_tick e = cc
 
 -- a line that is no tick, while the driver is busy
 pub quiet : (R image : List ℕ) (log : Log) (event : Happening) (entry : Shown) (place : Place)
-    → IsLegal R image ((event ⟼ entry) ∷ log) → LivesOn log event entry
-    → ticks ((event ⟼ entry) ∷ []) ≡ 0
+    → IsLegal R image ((event ⟼ entry) ∷ log) → LivesOn log event entry → ticks ((event ⟼ entry) ∷ []) ≡ 0
     → place_of_life (life image log) ≡ Some place → IsBusy place → Leaves image log event entry
 quiet R image log Tick entry place l lives none stands busy = absurd (no_tick none)
 quiet R image log (Offer F) (Refused fault) place l lives none stands busy =
@@ -95,8 +92,7 @@ quiet R image log Redraw NothingPublished place l lives none stands busy =
     record { life_is = refl; offered_is = refl; flip_is = refl; strobed_is = refl }
 quiet R image log Redraw Busy place l lives none stands busy =
     record { life_is = refl; offered_is = refl; flip_is = refl; strobed_is = refl }
-quiet R image log Redraw Asked place l lives none stands busy =
-    absurd (not_whole image log place stands busy l.0.1)
+quiet R image log Redraw Asked place l lives none stands busy = absurd (not_whole image log place stands busy l.0.1)
 quiet R image log Strobe Started place l lives none stands busy =
     record { life_is = refl; offered_is = refl; flip_is = refl; strobed_is = refl }
 quiet R image log Strobe NoStrobe place l lives none stands busy =

@@ -43,8 +43,7 @@ idles log l new none zero =
     let peeked = ap (λ items. place_of_life (Did Peek ∷ items)) new in
     let read = ap (λ items. place_of_life (Did (Read true) ∷ Did Peek ∷ items)) new in
     let once = did_more log Peek Booting l peeked tt in (
-      did_more ((Tick ⟼ Acted Peek) ∷ log) (Read true) (Resting true) once read
-          (sym (ap is_none none)),
+      did_more ((Tick ⟼ Acted Peek) ∷ log) (Read true) (Resting true) once read (sym (ap is_none none)),
       read,
       none,
     )
@@ -73,8 +72,7 @@ stood_apart events log fetch apart (suc count) = (fetch, stood_apart events log 
 
 -- published_in_time: of these 12 ticks, or as many as the law says, none publishes the frame
 abbrev PublishesNothing : Log → Type 0
-PublishesNothing later = IsLegal zeros zeros (later ++ accepted)
-    × ¬ (published (later ++ accepted) ≡ Some frame)
+PublishesNothing later = IsLegal zeros zeros (later ++ accepted) × ¬ (published (later ++ accepted) ≡ Some frame)
 
 -- the processor is reset in between
 pub published_needs_the_processor :
@@ -106,8 +104,7 @@ pub published_needs_no_more :
     × (ticks later ≡ suc (2 * size frame + 2))
     × ¬ (life zeros (later ++ accepted)
     ≡ reverse (wrote (frame_writes (free_half zeros booted) frame true)) ++ life zeros accepted)
-published_needs_no_more =
-    (begun_legal.2.2, ticks_apart (Read true ∷ all_writes), refl, λ e. cc)
+published_needs_no_more = (begun_legal.2.2, ticks_apart (Read true ∷ all_writes), refl, λ e. cc)
 
 -- drawn_in_time: there is no frame of which the log's later part holds one `done` alone, in time
 abbrev DrawsNoneOnce : Log → Type 0
@@ -147,8 +144,7 @@ SendsNothing flipped wait first rest next =
 
 -- no tick of the wait finds that no run is open
 abbrev WaitsForRun : Log → Log → Type 0
-WaitsForRun flipped wait =
-    Throughout (λ log event entry. event ≡ Tick → open_run (log ++ flipped) ≢ None) wait
+WaitsForRun flipped wait = Throughout (λ log event entry. event ≡ Tick → open_run (log ++ flipped) ≢ None) wait
 
 abbrev pub flipped : Log
 flipped = writes ++ accepted
@@ -214,8 +210,7 @@ pub more : (log : Log) (run : Newest) (address low word : ℕ) (visits : List Vi
     → IsLegal zeros zeros log → Leaves (history zeros zeros log) run → run.is_open ≡ true
     → wants run ≡ Some address → meets zeros zeros log address ≡ Waits low
     → meets zeros zeros ((Fetch ⟼ Low address low) ∷ log) address ≡ Whole (Some word)
-    → Adds run.visits run.held word visits held
-    → reply (Some word) (grown run visits held) ≡ More
+    → Adds run.visits run.held word visits held → reply (Some word) (grown run visits held) ≡ More
     → IsLegal zeros zeros (fetched ((address, low, word) ∷ []) ++ log)
     × Leaves (Fed (Some word) ∷ history zeros zeros log) (grown run visits held)
 more log run address low word visits held l leaves is_open wanted half whole adds replies =
@@ -223,15 +218,7 @@ more log run address low word visits held l leaves is_open wanted half whole add
     record { run = run; leaves = leaves; wanted = wanted } in
     let grows = takes leaves is_open adds in (
       (
-        (
-          whole,
-          record {
-            asked = asked;
-            later = grown run visits held;
-            leaves_later = grows;
-            replies = replies;
-          },
-        ),
+        (whole, record { asked = asked; later = grown run visits held; leaves_later = grows; replies = replies }),
         tt,
         ((half, asked), tt, l),
       ),
@@ -243,22 +230,13 @@ pub last : (log : Log) (run : Newest) (address low word : ℕ) (visits : List Vi
     (drew : List Stroke) → IsLegal zeros zeros log → Leaves (history zeros zeros log) run
     → run.is_open ≡ true → wants run ≡ Some address → meets zeros zeros log address ≡ Waits low
     → meets zeros zeros ((Fetch ⟼ Low address low) ∷ log) address ≡ Whole (Some word)
-    → Adds run.visits run.held word visits None
-    → reply (Some word) (grown run visits None) ≡ Drew drew
+    → Adds run.visits run.held word visits None → reply (Some word) (grown run visits None) ≡ Drew drew
     → IsLegal zeros zeros ((Fetch ⟼ Done address word drew) ∷ (Fetch ⟼ Low address low) ∷ log)
 last log run address low word visits drew l leaves is_open wanted half whole adds replies =
     let asked : IsWanted (history zeros zeros log) address =
     record { run = run; leaves = leaves; wanted = wanted } in
     let grows = takes leaves is_open adds in (
-      (
-        whole,
-        record {
-          asked = asked;
-          later = grown run visits None;
-          leaves_later = grows;
-          replies = replies;
-        },
-      ),
+      (whole, record { asked = asked; later = grown run visits None; leaves_later = grows; replies = replies }),
       tt,
       ((half, asked), tt, l),
     )
@@ -313,8 +291,7 @@ pub joined : (events : List Happening) (one other : Log) → Without events one 
     → Without events (one ++ other)
 joined events [] other new old = old
 joined events ((ResetAll bytes ⟼ entry) ∷ one) other new old = absurd new
-joined events ((event ⟼ entry) ∷ one) other new old =
-    (new.0, joined events one other new.1 old)
+joined events ((event ⟼ entry) ∷ one) other new old = (new.0, joined events one other new.1 old)
 
 no_reset : (log : Log) → Without (Strobe ∷ ResetGen ∷ []) log → Without (ResetGen ∷ []) log
 no_reset [] apart = tt
@@ -329,11 +306,9 @@ older_done : (one other : Log) → NoneDone (one ++ other) → NoneDone other
 older_done [] other none = none
 older_done ((event ⟼ entry) ∷ one) other none = older_done one other none.1
 
-fetches_done : (words : List (ℕ × ℕ × ℕ)) (log : Log) → NoneDone log
-    → NoneDone (fetched words ++ log)
+fetches_done : (words : List (ℕ × ℕ × ℕ)) (log : Log) → NoneDone log → NoneDone (fetched words ++ log)
 fetches_done [] log none = none
-fetches_done (it ∷ words) log none =
-    (λ a w s e. cc, (λ a w s e. cc, fetches_done words log none))
+fetches_done (it ∷ words) log none = (λ a w s e. cc, (λ a w s e. cc, fetches_done words log none))
 
 -- another strobe comes after the run is over, and there are two lines `done`
 pub drawn_needs_no_strobe :
@@ -341,11 +316,7 @@ pub drawn_needs_no_strobe :
     DrawsNoneOnce later × (open_run (later ++ begun) ≡ None) × Without (ResetGen ∷ []) later
 drawn_needs_no_strobe =
     let draws_on = no_reset draws draws_apart in (
-      (
-        twice,
-        λ F n once. (older_done (but_last ++ (Strobe ⟼ Started) ∷ []) draws once.3).0 0x205 0xB000
-            stroke refl,
-      ),
+      (twice, λ F n once. (older_done (but_last ++ (Strobe ⟼ Started) ∷ []) draws once.3).0 0x205 0xB000 stroke refl),
       refl,
       joined (ResetGen ∷ []) draws again draws_on ((λ e. cc, tt), draws_on),
     )

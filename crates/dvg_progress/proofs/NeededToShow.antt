@@ -31,8 +31,7 @@ abbrev pub IsSending : Log → Type 0
 IsSending send = Without (Strobe ∷ ResetCpu ∷ []) send × (2 ≤ ticks send)
 
 abbrev pub IsDrawing : ℕ → Log → Log → Type 0
-IsDrawing n started draw =
-    Without (Strobe ∷ ResetGen ∷ []) draw × (2 * n ≤ fetched_since (draw ++ started))
+IsDrawing n started draw = Without (Strobe ∷ ResetGen ∷ []) draw × (2 * n ≤ fetched_since (draw ++ started))
 
 -- no strobe was sent: the strobe that comes is none, and 12 fetches come at which no run is open
 abbrev NeverBegun : Log → Log → Type 0
@@ -49,23 +48,16 @@ fetches_stand (suc count) log none = (λ e. cc, fetches_stand count log none)
 
 never_begun : (write send : Log) → let log = send ++ (write ++ accepted) in IsLegal zeros zeros log
     → NoFrame (send ++ write) → open_run (write ++ accepted) ≡ None → open_run log ≡ None
-    → strobed log ≡ false → 12 ≤ fetched_since (stood 12 ++ (Strobe ⟼ NoStrobe) ∷ log)
-    → NeverBegun write send
+    → strobed log ≡ false → 12 ≤ fetched_since (stood 12 ++ (Strobe ⟼ NoStrobe) ∷ log) → NeverBegun write send
 never_begun write send l frames closed none dark count =
     let log : Log = (Strobe ⟼ NoStrobe) ∷ send ++ (write ++ accepted) in
     let apart = stood_apart (Strobe ∷ ResetGen ∷ []) [] (λ e. cc, (λ e. cc, tt)) tt 12 in (
-      (
-        (stands_still log (dark, tt, l) none 12).0,
-        fetches_stand 12 (send ++ write) frames,
-        closed,
-        λ once. once,
-      ),
+      ((stands_still log (dark, tt, l) none 12).0, fetches_stand 12 (send ++ write) frames, closed, λ once. once),
       (apart, count),
     )
 
 but_last_accepts : NoFrame (but_last ++ (sends ++ writes))
-but_last_accepts =
-    (λ e. cc, fetches_accept words (sends ++ writes) (ticks_accept (sending ++ all_writes)))
+but_last_accepts = (λ e. cc, fetches_accept words (sends ++ writes) (ticks_accept (sending ++ all_writes)))
 
 -- the processor is reset while the frame is written
 pub shown_needs_the_processor :
@@ -172,14 +164,7 @@ pub shown_needs_no_strobe :
 shown_needs_no_strobe = (
   (
     twice,
-    (
-      λ e. cc,
-      (
-        λ e. cc,
-        fetches_accept words (again ++ (sends ++ writes))
-            (λ e. cc, (λ e. cc, but_last_accepts)),
-      ),
-    ),
+    (λ e. cc, (λ e. cc, fetches_accept words (again ++ (sends ++ writes)) (λ e. cc, (λ e. cc, but_last_accepts)))),
     refl,
     drawn_needs_no_strobe.0.1 frame 6,
   ),
@@ -240,8 +225,5 @@ shown_needs_the_bound = (
   ),
   (ticks_apart all_writes, lit≤ tt),
   (waits_apart sending, lit≤ tt),
-  (
-    stood_apart (Strobe ∷ ResetGen ∷ []) draws (λ e. cc, (λ e. cc, tt)) draws_apart 2,
-    lit≤ tt,
-  ),
+  (stood_apart (Strobe ∷ ResetGen ∷ []) draws (λ e. cc, (λ e. cc, tt)) draws_apart 2, lit≤ tt),
 )

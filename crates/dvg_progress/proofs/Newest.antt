@@ -47,10 +47,8 @@ tick_still log Start to Peek still next = (refl, subst NotWriting (same_Some _ _
 tick_still log Booting to (Read true) still next = (refl, subst NotWriting (same_Some _ _ next) tt)
 tick_still log Booting to (Read false) still next = (refl, subst NotWriting (same_Some _ _ next) tt)
 tick_still log (Resting first) to Idle still next = (refl, subst NotWriting (same_Some _ _ next) tt)
-tick_still log (Waiting first) to (Read true) still next =
-    (refl, subst NotWriting (same_Some _ _ next) tt)
-tick_still log (Waiting first) to (Read false) still next =
-    (refl, subst NotWriting (same_Some _ _ next) tt)
+tick_still log (Waiting first) to (Read true) still next = (refl, subst NotWriting (same_Some _ _ next) tt)
+tick_still log (Waiting first) to (Read false) still next = (refl, subst NotWriting (same_Some _ _ next) tt)
 tick_still log (Sending first) to Sent still next = (refl, subst NotWriting (same_Some _ _ next) tt)
 tick_still log (Writing writes) to action still next = absurd still
 tick_still log _ to _ still next = absurd (cc)
@@ -67,10 +65,8 @@ module _ (R image : List ℕ) (F : List OpKind) where
       record {
         newest = still.0 ∙ n.newest;
         place = t.to;
-        stands =
-            subst (λ a. place_of_life (Did a ∷ life image log) ≡ Some t.to) same t.stands;
-        still =
-            still.1;
+        stands = subst (λ a. place_of_life (Did a ∷ life image log) ≡ Some t.to) same t.stands;
+        still = still.1;
       }
     where
       acted_is : {one other : Action} → ◌≡◌ {A = Shown} (Acted one) (Acted other) → other ≡ one
@@ -89,8 +85,7 @@ module _ (R image : List ℕ) (F : List OpKind) where
       record {
         newest = n.newest;
         place = Waiting rests.0;
-        stands =
-            ap (option_and_then (λ p. next_place p Script.Asked)) rests.1;
+        stands = ap (option_and_then (λ p. next_place p Script.Asked)) rests.1;
         still = tt;
       }
   newest_step log Strobe Started l not_all none n =
@@ -119,8 +114,7 @@ pub none_stays : (R image : List ℕ) (log : Log) (event : Happening) (entry : S
     → IsLegal R image ((event ⟼ entry) ∷ log) → NotStrobe event → open_run log ≡ None
     → open_run ((event ⟼ entry) ∷ log) ≡ None
 none_stays R image log Strobe entry l not_strobe none = absurd not_strobe
-none_stays R image log Fetch (Fetched a w) l not_strobe none =
-    ap (option_map (λ fetches. (a, w) ∷ fetches)) none
+none_stays R image log Fetch (Fetched a w) l not_strobe none = ap (option_map (λ fetches. (a, w) ∷ fetches)) none
 none_stays R image log event Started l not_strobe none = absurd l.0
 none_stays R image log event (Fetched a w) l not_strobe none = absurd l.0
 none_stays R image log ResetGen entry l not_strobe none = refl
@@ -132,8 +126,7 @@ none_stays R image log event entry l not_strobe none = none
 -- and one that has fetched a word goes on, or is over
 grows : (R image : List ℕ) (log : Log) (event : Happening) (entry : Shown) (v : ℕ × ℕ)
     (vs : List (ℕ × ℕ)) → IsLegal R image ((event ⟼ entry) ∷ log) → NotStrobe event
-    → open_run log ≡ Some (v ∷ vs)
-    → open_run ((event ⟼ entry) ∷ log) ≢ None → (u : ℕ × ℕ) × (us : List (ℕ × ℕ))
+    → open_run log ≡ Some (v ∷ vs) → open_run ((event ⟼ entry) ∷ log) ≢ None → (u : ℕ × ℕ) × (us : List (ℕ × ℕ))
     × (open_run ((event ⟼ entry) ∷ log) ≡ Some (u ∷ us))
 grows R image log Strobe entry v vs l not_strobe o is_open = absurd not_strobe
 grows R image log Fetch (Fetched a w) v vs l not_strobe o is_open =
@@ -147,14 +140,11 @@ grows R image log event (Broke a fault) v vs l not_strobe o is_open = absurd (is
 grows R image log event entry v vs l not_strobe o is_open = (v, vs, o)
 
 -- what a run shows that has fetched nothing
-zero_shown : (log : Log) (F G : List OpKind) → open_run log ≡ Some [] → published log ≡ Some F
-    → IsShown log G → F ≡ G
-zero_shown log F G o newest shown =
-    same_Some _ _ (sym newest ∙ (sym (ap published (at_zero_open log o)) ∙ shown))
+zero_shown : (log : Log) (F G : List OpKind) → open_run log ≡ Some [] → published log ≡ Some F → IsShown log G → F ≡ G
+zero_shown log F G o newest shown = same_Some _ _ (sym newest ∙ (sym (ap published (at_zero_open log o)) ∙ shown))
 
 both_published : (event : Happening) (entry : Shown) (log : Log) (F : List OpKind)
-    → published (at_zero log) ≡ Some F → published ((event ⟼ entry) ∷ log) ≡ Some F
-    → IsShown ((event ⟼ entry) ∷ log) F
+    → published (at_zero log) ≡ Some F → published ((event ⟼ entry) ∷ log) ≡ Some F → IsShown ((event ⟼ entry) ∷ log) F
 both_published event entry log F old new = by (has_fetched (open_run ((event ⟼ entry) ∷ log)))
   where
     by : (t : Bool) → published (if t then at_zero log else (event ⟼ entry) ∷ log) ≡ Some F
@@ -164,8 +154,7 @@ both_published event entry log F old new = by (has_fetched (open_run ((event ⟼
 -- while a frame is the newest one, what the open run shows stays the same
 pub shown_step : (R image : List ℕ) (log : Log) (event : Happening) (entry : Shown)
     (F G : List OpKind) → IsLegal R image ((event ⟼ entry) ∷ log) → NotStrobe event
-    → published log ≡ Some F
-    → published ((event ⟼ entry) ∷ log) ≡ Some F → (words : List (ℕ × ℕ))
+    → published log ≡ Some F → published ((event ⟼ entry) ∷ log) ≡ Some F → (words : List (ℕ × ℕ))
     → open_run log ≡ Some words → open_run ((event ⟼ entry) ∷ log) ≢ None → IsShown log G
     → IsShown ((event ⟼ entry) ∷ log) G
 shown_step R image log event entry F G l not_strobe old new [] o is_open shown =
@@ -177,8 +166,7 @@ shown_step R image log event entry F G l not_strobe old new (v ∷ vs) o is_open
     (sym (at_zero_fetched (event ⟼ entry) log more.0 more.1 more.2)) shown
 
 module _ (R image : List ℕ) (F : List OpKind) (start : Log) (begun : Newest image F start) where
-  pub newest_on : (later : Log) → IsLegal R image (later ++ start)
-      → Throughout (λ log event entry. NotAll event) later
+  pub newest_on : (later : Log) → IsLegal R image (later ++ start) → Throughout (λ log event entry. NotAll event) later
       → Throughout (λ log event entry. entry ≢ Offered) later → Newest image F (later ++ start)
   newest_on [] l not_all none = begun
   newest_on ((event ⟼ entry) ∷ later) l not_all none =
@@ -190,20 +178,16 @@ module _ (R image : List ℕ) (F : List OpKind) (start : Log) (begun : Newest im
     pub was_open : open_run start ≢ None
     pub shows : (G : List OpKind) → IsShown start G → IsShown (later ++ start) G
 
-  pub same_run : (later : Log) → IsLegal R image (later ++ start)
-      → Throughout (λ log event entry. NotAll event) later
+  pub same_run : (later : Log) → IsLegal R image (later ++ start) → Throughout (λ log event entry. NotAll event) later
       → Throughout (λ log event entry. entry ≢ Offered) later
-      → Throughout (λ log event entry. NotStrobe event) later → open_run (later ++ start) ≢ None
-      → SameRun later
-  same_run [] l not_all none not_strobe is_open =
-      record { was_open = is_open; shows = λ G shown. shown }
+      → Throughout (λ log event entry. NotStrobe event) later → open_run (later ++ start) ≢ None → SameRun later
+  same_run [] l not_all none not_strobe is_open = record { was_open = is_open; shows = λ G shown. shown }
   same_run ((event ⟼ entry) ∷ later) l not_all none not_strobe is_open =
       by (open_run (later ++ start)) refl (same_run later l.2 not_all.1 none.1 not_strobe.1)
     where
       by : (run : Option (List (ℕ × ℕ))) → open_run (later ++ start) ≡ run
           → (open_run (later ++ start) ≢ None → SameRun later) → SameRun ((event ⟼ entry) ∷ later)
-      by None o same = absurd (is_open (none_stays R image (later ++ start) event entry l
-          not_strobe.0 o))
+      by None o same = absurd (is_open (none_stays R image (later ++ start) event entry l not_strobe.0 o))
       by (Some words) o same =
           let before = same (λ closed. none-some words (sym closed ∙ o)) in
           let old = newest_on later l.2 not_all.1 none.1 in

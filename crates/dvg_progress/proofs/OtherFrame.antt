@@ -38,10 +38,7 @@ other = Draw (Labs 512 400 0) ∷ Stop ∷ []
 
 is_draft : IsDraft other
 is_draft =
-    record {
-      count = lit≤ tt;
-      ops = All-from_recursion IsOp other (((lit≤ tt, lit≤ tt, lit≤ tt), refl), (tt, tt));
-    }
+    record { count = lit≤ tt; ops = All-from_recursion IsOp other (((lit≤ tt, lit≤ tt, lit≤ tt), refl), (tt, tt)) }
 
 -- the pairs that it reaches
 data At : Place → ℕ → Type 0 where
@@ -64,8 +61,7 @@ acts1 : {act : Act Place} {after : Place} → Stands other zeros (InFrame 1) act
 acts1 (in_frame e d) = d ∙ ap op_act (sym (same_Some _ _ e))
 
 -- each step goes on to a later operation
-lead : {p q : Place} {d e : ℕ} → At p d → Leads other zeros p d q e
-    → At q e × (number p < number q)
+lead : {p q : Place} {d e : ℕ} → At p d → Leads other zeros p d q e → At q e × (number p < number q)
 lead at0 (on s) =
     let a = acts0 s in subst (λ x. At x 0 × (0 < number x)) (sym a.1) (at1, lit< tt)
 lead at0 (jump {q = q} s) = let a = (acts0 s).0 in absurd (cc)
@@ -91,11 +87,9 @@ fine at1 fault (target a s n o) = let k = acts1 s in subst (λ x. Names x (InRom
 fine at1 fault (deep {to = to} s e) = let k = acts1 s in cc
 fine at1 fault (bare s e) = let k = acts1 s in cc
 
-names_none : (i j : ℕ) (op : OpKind) → slice_get other i ≡ Some op
-    → ¬ Names (op_act op) (InFrame j)
+names_none : (i j : ℕ) (op : OpKind) → slice_get other i ≡ Some op → ¬ Names (op_act op) (InFrame j)
 names_none zero j op e n = subst (λ x. Names (op_act x) (InFrame j)) (sym (same_Some _ _ e)) n
-names_none (suc zero) j op e n =
-    subst (λ x. Names (op_act x) (InFrame j)) (sym (same_Some _ _ e)) n
+names_none (suc zero) j op e n = subst (λ x. Names (op_act x) (InFrame j)) (sym (same_Some _ _ e)) n
 names_none (suc (suc i)) j op e n = absurd (cc)
 
 misses_none : (i : ℕ) → ¬ Misses other i
@@ -130,8 +124,7 @@ May (action ∷ actions) log =
 acts : (actions : List Action) (log : Log) → IsLegal zeros zeros log → May actions log
     → IsLegal zeros zeros (did actions ++ log)
 acts [] log l may = l
-acts (action ∷ actions) log l may =
-    did_more (did actions ++ log) action may.0 (acts actions log l may.3) may.1 may.2
+acts (action ∷ actions) log l may = did_more (did actions ++ log) action may.0 (acts actions log l may.3) may.1 may.2
 
 -- the writes to half 0, and the strobe
 abbrev acted : List Action
@@ -159,8 +152,7 @@ abbrev draw : Log
 draw = stood 4 ++ drawn
 
 offered_legal : IsLegal zeros zeros (offered ++ flipped)
-offered_legal =
-    ((accepts, rests_whole (life zeros (sends ++ flipped)) false refl), is_draft, begun_legal.2)
+offered_legal = ((accepts, rests_whole (life zeros (sends ++ flipped)) false refl), is_draft, begun_legal.2)
 
 started_legal : IsLegal zeros zeros started
 started_legal = (
@@ -174,27 +166,7 @@ started_legal = (
       _,
       refl,
       refl,
-      (
-        _,
-        refl,
-        tt,
-        (
-          _,
-          refl,
-          tt,
-          (
-            _,
-            refl,
-            tt,
-            (
-              _,
-              refl,
-              tt,
-              (_, refl, tt, (_, refl, tt, (_, refl, tt, tt))),
-            ),
-          ),
-        ),
-      ),
+      (_, refl, tt, (_, refl, tt, (_, refl, tt, (_, refl, tt, (_, refl, tt, (_, refl, tt, (_, refl, tt, tt))))))),
     ),
   ),
 )
@@ -223,8 +195,7 @@ drawn_legal =
     last at3 (run placed None) 0x003 0x00 0xB000 (record { place = 0x003; code = Halt } ∷ placed) []
     three.0 three.1 refl refl refl refl (alone (halt (lit≤ tt) (lit< tt))) refl
 
-other_once : (F : List OpKind) (n : ℕ) → DrawsOnce F zeros n started draw
-    → DrawsOnce other zeros 4 started draw
+other_once : (F : List OpKind) (n : ℕ) → DrawsOnce F zeros n started draw → DrawsOnce other zeros 4 started draw
 other_once F n once =
     let same = same_Some other F once.0 in
     let four : n ≡ 4 = let count = once.2 in omega arith in

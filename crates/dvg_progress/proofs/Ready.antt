@@ -18,10 +18,8 @@ use Rattle.dvg_progress.proofs.Sending.{waits, sends, waiting_busy, sending_busy
 -- the strobe was sent, or the driver is about to, after at most this many ticks that found no run open
 pub data Ready (image : List ℕ) (log : Log) (count : ℕ) : Type 0 where
   sent : strobed log ≡ true → Ready image log count
-  sending : (first : Bool) → place_of_life (life image log) ≡ Some (Sending first) → count ≤ 1
-      → Ready image log count
-  waiting : (first : Bool) → place_of_life (life image log) ≡ Some (Waiting first) → count ≤ 0
-      → Ready image log count
+  sending : (first : Bool) → place_of_life (life image log) ≡ Some (Sending first) → count ≤ 1 → Ready image log count
+  waiting : (first : Bool) → place_of_life (life image log) ≡ Some (Waiting first) → count ≤ 0 → Ready image log count
 
 pub strobed_stays : (log : Log) (event : Happening) (entry : Shown) → LivesOn log event entry
     → strobed log ≡ true → strobed ((event ⟼ entry) ∷ log) ≡ true
@@ -41,8 +39,7 @@ pub ready_tick : (R image : List ℕ) (log : Log) (entry : Shown) (count now : �
     → IsLegal R image ((Tick ⟼ entry) ∷ log) → (count ≤ 0 → now ≤ 1)
     → (count ≤ 0 → is_none (open_run log) ≡ false → now ≤ 0)
     → Ready image log count → Ready image ((Tick ⟼ entry) ∷ log) now
-ready_tick R image log entry count now l one none (sent s) =
-    sent (strobed_stays log Tick entry tt s)
+ready_tick R image log entry count now l one none (sent s) = sent (strobed_stays log Tick entry tt s)
 ready_tick R image log entry count now l one none (sending first stands few) =
     let send = sends R image log entry first l stands in
     sent (subst (λ shown. strobed ((Tick ⟼ shown) ∷ log) ≡ true) (sym send.sent) refl)
@@ -51,11 +48,9 @@ ready_tick R image log entry count now l one none (waiting first stands few) =
     (waits R image log entry first l stands).stands (one few) (none few)
 
 pub ready_plain : (R image : List ℕ) (log : Log) (event : Happening) (entry : Shown) (count : ℕ)
-    → IsLegal R image ((event ⟼ entry) ∷ log) → LivesOn log event entry
-    → ticks ((event ⟼ entry) ∷ []) ≡ 0
+    → IsLegal R image ((event ⟼ entry) ∷ log) → LivesOn log event entry → ticks ((event ⟼ entry) ∷ []) ≡ 0
     → Ready image log count → Ready image ((event ⟼ entry) ∷ log) count
-ready_plain R image log event entry count l lives none (sent s) =
-    sent (strobed_stays log event entry lives s)
+ready_plain R image log event entry count l lives none (sent s) = sent (strobed_stays log event entry lives s)
 ready_plain R image log event entry count l lives none (sending first stands few) =
     sending first (ap place_of_life (quiet R image log event entry (Sending first) l lives none
     stands (sending_busy first)).life_is ∙ stands) few
@@ -70,8 +65,7 @@ module _ (R image : List ℕ) (start : Log) where
   ready_step later Tick entry l lives ready =
       ready_tick R image (later ++ start) entry 0 0 l (λ few. omega arith) (λ few is_open. few)
       ready
-  ready_step later event entry l lives ready =
-      ready_plain R image (later ++ start) event entry 0 l lives refl ready
+  ready_step later event entry l lives ready = ready_plain R image (later ++ start) event entry 0 l lives refl ready
 
   -- whatever comes but resets
   pub ready_on : (later : Log) → IsLegal R image (later ++ start) → Throughout LivesOn later
@@ -82,8 +76,7 @@ module _ (R image : List ℕ) (start : Log) where
 
   send_step : (later : Log) (event : Happening) (entry : Shown)
       → IsLegal R image ((event ⟼ entry) ∷ later ++ start) → LivesOn later event entry
-      → open_run (later ++ start) ≡ None
-      → Ready image (later ++ start) (ticks later)
+      → open_run (later ++ start) ≡ None → Ready image (later ++ start) (ticks later)
       → Ready image ((event ⟼ entry) ∷ later ++ start) (ticks ((event ⟼ entry) ∷ later))
   send_step later Tick entry l lives none ready =
       ready_tick R image (later ++ start) entry (ticks later) (suc (ticks later)) l
@@ -94,20 +87,17 @@ module _ (R image : List ℕ) (start : Log) where
 
   -- while no run is open
   pub send_on : (later : Log) → IsLegal R image (later ++ start) → Throughout LivesOn later
-      → Throughout (λ log event entry. NotStrobe event) later → open_run start ≡ None
-      → Ready image start 0
+      → Throughout (λ log event entry. NotStrobe event) later → open_run start ≡ None → Ready image start 0
       → (open_run (later ++ start) ≡ None) × Ready image (later ++ start) (ticks later)
   send_on [] l lives not_strobe none ready = (none, ready)
   send_on ((event ⟼ entry) ∷ later) l lives not_strobe none ready =
       let before = send_on later l.2 lives.1 not_strobe.1 none ready in (
         none_stays R image (later ++ start) event entry l not_strobe.0 before.0,
-        send_step later
-            event entry l lives.0 before.0 before.1,
+        send_step later event entry l lives.0 before.0 before.1,
       )
 
 -- two ticks send it
-pub is_sent : (image : List ℕ) (log : Log) (count : ℕ) → 2 ≤ count → Ready image log count
-    → strobed log ≡ true
+pub is_sent : (image : List ℕ) (log : Log) (count : ℕ) → 2 ≤ count → Ready image log count → strobed log ≡ true
 is_sent image log count two (sent s) = s
 is_sent image log count two (sending first stands few) = absurd (omega arith)
 is_sent image log count two (waiting first stands few) = absurd (omega arith)

@@ -24,8 +24,7 @@ use Rattle.dvg_progress.proofs.Lives.{IsBusy, LivesOn, lives_on, newer, older, q
 
 -- a write of byte 001 is a flip: the driver waits after it
 flip_waits : (half : Half) (z b : ℕ) (to : Place) → IsWrite half z 1 b to → to ≡ Waiting false
-flip_waits half z b to (to_half inside more is todo) =
-    absurd (let low = past_zero half (1 / 2) inside in omega arith)
+flip_waits half z b to (to_half inside more is todo) = absurd (let low = past_zero half (1 / 2) inside in omega arith)
 flip_waits half z b to (to_zero at is_one more is todo) = absurd (omega arith)
 flip_waits half z b to (to_one at is_high is low) = is
 
@@ -39,8 +38,7 @@ wrote_at R image log _ to b k next = absurd (cc)
 acted_is : {one other : Action} → ◌≡◌ {A = Shown} (Acted one) (Acted other) → other ≡ one
 acted_is e = cc
 
-pub flip_place : (R image : List ℕ) (before : Log) (b : ℕ)
-    → IsLegal R image ((Tick ⟼ Acted (Wrote 1 b)) ∷ before)
+pub flip_place : (R image : List ℕ) (before : Log) (b : ℕ) → IsLegal R image ((Tick ⟼ Acted (Wrote 1 b)) ∷ before)
     → place_of_life (life image ((Tick ⟼ Acted (Wrote 1 b)) ∷ before)) ≡ Some (Waiting false)
 flip_place R image before b l =
     let k = kept R image before l.2 (words_are_whole R image before l.2) in
@@ -63,8 +61,7 @@ pub waiting_next : (first : Bool) (action : Action) (to : Place) (halted : Bool)
     → (action ≡ Read halted) × (to ≡ (if halted then Sending first else Waiting first))
 waiting_next first (Read shown) to halted next tells = (
   ap Read tells,
-  sym (same_Some _ _ next)
-      ∙ ap (λ h. if h then Sending first else Waiting first) tells,
+  sym (same_Some _ _ next) ∙ ap (λ h. if h then Sending first else Waiting first) tells,
 )
 waiting_next first _ to halted next tells = absurd (cc)
 
@@ -105,8 +102,7 @@ sends R image log entry first l stands =
 
 -- a line that is no tick leaves a busy driver where it is
 pub stays : (R image : List ℕ) (log : Log) (event : Happening) (entry : Shown) (place : Place)
-    → IsLegal R image ((event ⟼ entry) ∷ log) → LivesOn log event entry
-    → ticks ((event ⟼ entry) ∷ []) ≡ 0
+    → IsLegal R image ((event ⟼ entry) ∷ log) → LivesOn log event entry → ticks ((event ⟼ entry) ∷ []) ≡ 0
     → place_of_life (life image log) ≡ Some place → IsBusy place
     → place_of_life (life image ((event ⟼ entry) ∷ log)) ≡ Some place
 stays R image log event entry place l lives none stands busy =
@@ -123,8 +119,7 @@ FindsRun log event entry = event ≡ Tick → open_run log ≢ None
 module _ (R image : List ℕ) (start : Log) where
   wait_step : (later : Log) (event : Happening) (entry : Shown)
       → IsLegal R image ((event ⟼ entry) ∷ later ++ start) → LivesOn later event entry
-      → FindsRun (later ++ start) event entry
-      → place_of_life (life image (later ++ start)) ≡ Some (Waiting false)
+      → FindsRun (later ++ start) event entry → place_of_life (life image (later ++ start)) ≡ Some (Waiting false)
       → place_of_life (life image ((event ⟼ entry) ∷ later ++ start)) ≡ Some (Waiting false)
   wait_step later Tick entry l lives finds stands =
       (waits R image (later ++ start) entry false l stands).stands
@@ -136,8 +131,7 @@ module _ (R image : List ℕ) (start : Log) where
 
   -- while the driver finds a run open it waits
   wait_on : (later : Log) → IsLegal R image (later ++ start) → Throughout LivesOn later
-      → Throughout (λ log. FindsRun (log ++ start)) later
-      → place_of_life (life image start) ≡ Some (Waiting false)
+      → Throughout (λ log. FindsRun (log ++ start)) later → place_of_life (life image start) ≡ Some (Waiting false)
       → place_of_life (life image (later ++ start)) ≡ Some (Waiting false)
   wait_on [] l lives finds stands = stands
   wait_on ((event ⟼ entry) ∷ later) l lives finds stands =
@@ -161,8 +155,7 @@ module _ (R image : List ℕ) (start : Log) where
       rest_step later event entry place busy l lives.0 none
       (λ fewer. rest_on later place busy l.2 lives.1 fewer stands)
 
-pub legal_before : (R image : List ℕ) (later log : Log) → IsLegal R image (later ++ log)
-    → IsLegal R image log
+pub legal_before : (R image : List ℕ) (later log : Log) → IsLegal R image (later ++ log) → IsLegal R image log
 legal_before R image [] log l = l
 legal_before R image ((event ⟼ entry) ∷ later) log l = legal_before R image later log l.2
 

@@ -29,12 +29,10 @@ ShownSooner = (R image : List ℕ) (F : List OpKind) (n : ℕ) (before write sen
     → Throughout (λ _ _ e. e ≢ Offered) (draw ++ (send ++ write))
     → Without (ResetCpu ∷ []) write → 2 * size F + 2 ≤ ticks write
     → Without (ResetCpu ∷ []) send → 2 ≤ ticks send → IsBound F R n
-    → Without (Strobe ∷ ResetGen ∷ []) draw → 2 * n ≤ fetched_since (draw ++ started)
-    → DrawsOnce F R n started draw
+    → Without (Strobe ∷ ResetGen ∷ []) draw → 2 * n ≤ fetched_since (draw ++ started) → DrawsOnce F R n started draw
 
 -- while no strobe was sent no run is open
-unstrobed : (R image : List ℕ) (log : Log) → IsLegal R image log → strobed log ≡ false
-    → open_run log ≡ None
+unstrobed : (R image : List ℕ) (log : Log) → IsLegal R image log → strobed log ≡ false → open_run log ≡ None
 unstrobed R image [] l dark = refl
 unstrobed R image ((ResetAll bytes ⟼ Cleared) ∷ log) l dark = refl
 unstrobed R image ((ResetAll bytes ⟼ entry) ∷ log) l dark = absurd l.0
@@ -52,8 +50,7 @@ ready_soon R image start [] l lives ready = ready
 ready_soon R image start ((Tick ⟼ entry) ∷ later) l lives ready =
     by (strobed (later ++ start)) refl (ready_soon R image start later l.2 lives.1 ready)
   where
-    by : (was_sent : Bool) → strobed (later ++ start) ≡ was_sent
-        → Ready image (later ++ start) (ticks later)
+    by : (was_sent : Bool) → strobed (later ++ start) ≡ was_sent → Ready image (later ++ start) (ticks later)
         → Ready image ((Tick ⟼ entry) ∷ later ++ start) (suc (ticks later))
     by true s before = sent (strobed_stays (later ++ start) Tick entry tt s)
     by false dark before =
@@ -91,8 +88,7 @@ shown_sooner R image F n before write send draw entry l none write_lives enough 
     let at_started = newest_step R image F ready_log Strobe entry started_l tt
     (started_not entry is) at_ready in
     let P : Shown → Type 0 = λ e. IsLegal R image (draw ++ (Strobe ⟼ e) ∷ ready_log)
-    → Newest image F ((Strobe ⟼ e) ∷ ready_log)
-    → 2 * n ≤ fetched_since (draw ++ (Strobe ⟼ e) ∷ ready_log)
+    → Newest image F ((Strobe ⟼ e) ∷ ready_log) → 2 * n ≤ fetched_since (draw ++ (Strobe ⟼ e) ∷ ready_log)
     → DrawsOnce F R n ((Strobe ⟼ e) ∷ ready_log) draw in
     subst P (sym is) (λ l newest fetched. draws R image F n bound ready_log draw l newest none_draw
     (runs_on draw runs) fetched) l at_started fetched

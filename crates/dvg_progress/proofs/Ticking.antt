@@ -52,8 +52,7 @@ pub record Some_ticks (R image : List ℕ) (log : Log) (count : ℕ) : Type 0 wh
   pub count_is : ticks later ≡ count
   pub long : length later ≡ count
 
-pub some_ticks : (R image : List ℕ) (log : Log) (count : ℕ) → IsLegal R image log
-    → Some_ticks R image log count
+pub some_ticks : (R image : List ℕ) (log : Log) (count : ℕ) → IsLegal R image log → Some_ticks R image log count
 some_ticks R image log zero l = record
     { later = []; only = no_ticks; legal = l; run_is = refl; count_is = refl; long = refl }
 some_ticks R image log (suc count) l =
@@ -78,8 +77,7 @@ pub record Rests (R image : List ℕ) (log : Log) (most : ℕ) : Type 0 where
   pub stands : place_of_life (life image (later ++ log)) ≡ Some (Resting first)
   pub few : length later ≤ most
 
-ticks_before : (later : Log) (action : Action) → Ticks later
-    → Ticks (later ++ (Tick ⟼ Acted action) ∷ [])
+ticks_before : (later : Log) (action : Action) → Ticks later → Ticks (later ++ (Tick ⟼ Acted action) ∷ [])
 ticks_before [] action no_ticks = one_tick action no_ticks
 ticks_before _ action (one_tick other only) = one_tick other (ticks_before _ action only)
 
@@ -107,8 +105,7 @@ start_next Peek to next = sym (same_Some _ _ next)
 start_next _ to next = absurd (cc)
 
 booting_next : (action : Action) (to : Place) (halted : Bool)
-    → next_place Booting (Did action) ≡ Some to → Tells action halted
-    → to ≡ (if halted then Resting true else Booting)
+    → next_place Booting (Did action) ≡ Some to → Tells action halted → to ≡ (if halted then Resting true else Booting)
 booting_next (Read shown) to halted next tells = sym (same_Some _ _ next)
     ∙ ap (λ h. if h then Resting true else Booting) tells
 booting_next _ to halted next tells = absurd (cc)
@@ -141,8 +138,7 @@ module _ (R image : List ℕ) where
         legal = one.1;
         to = t.to;
         next = subst (λ action. next_place place (Did action) ≡ Some t.to) same t.next;
-        stands = subst (λ action. place_of_life (Did action ∷ life image log) ≡ Some t.to) same
-            t.stands;
+        stands = subst (λ action. place_of_life (Did action ∷ life image log) ≡ Some t.to) same t.stands;
         tells = subst (λ action. Tells action (is_none (open_run log))) same t.tells;
       }
 
@@ -155,21 +151,18 @@ module _ (R image : List ℕ) where
         legal = l;
         run_is = refl;
         first = first;
-        stands =
-            stands;
+        stands = stands;
         few = omega arith;
       }
 
-  more_room : (log : Log) (few most : ℕ) → few ≤ most → Rests R image log few
-      → Rests R image log most
+  more_room : (log : Log) (few most : ℕ) → few ≤ most → Rests R image log few → Rests R image log most
   more_room log few most room rests =
       let less = rests.few in
       record {
         later = rests.later;
         only = rests.only;
         legal = rests.legal;
-        run_is =
-            rests.run_is;
+        run_is = rests.run_is;
         first = rests.first;
         stands = rests.stands;
         few = omega arith;
@@ -210,8 +203,7 @@ module _ (R image : List ℕ) where
       (t.stands ∙ ap Some (start_next t.action t.to t.next)))
 
   from_left : (writes : List (ℕ × ℕ)) (log : Log) → IsLegal R image log → open_run log ≡ None
-      → place_of_life (life image log) ≡ Some (with_left writes)
-      → Rests R image log (length writes + 2)
+      → place_of_life (life image log) ≡ Some (with_left writes) → Rests R image log (length writes + 2)
   from_left [] log l none stands = from_waiting log false l none stands
   from_left (write ∷ writes) log l none stands =
       let t = next_tick log (Writing (write ∷ writes)) l stands in
@@ -249,16 +241,13 @@ module _ (R image : List ℕ) where
 
   from_place : (log : Log) (place : Place) → IsLegal R image log → open_run log ≡ None
       → place_of_life (life image log) ≡ Some place → Rests R image log 1026
-  from_place log Start l none stands =
-      more_room log 2 1026 (omega arith) (from_start log l none stands)
-  from_place log Booting l none stands =
-      more_room log 1 1026 (omega arith) (from_booting log l none stands)
+  from_place log Start l none stands = more_room log 2 1026 (omega arith) (from_start log l none stands)
+  from_place log Booting l none stands = more_room log 1 1026 (omega arith) (from_booting log l none stands)
   from_place log (Resting first) l none stands = rests_now log first 1026 l stands
   from_place log (Writing writes) l none stands = from_writing log writes l none stands
   from_place log (Waiting first) l none stands =
       more_room log 2 1026 (omega arith) (from_waiting log first l none stands)
-  from_place log (Sending first) l none stands =
-      more_room log 1 1026 (omega arith) (from_sending log first l stands)
+  from_place log (Sending first) l none stands = more_room log 1 1026 (omega arith) (from_sending log first l stands)
 
   -- with no run open, the driver comes to rest
   pub rests : (log : Log) → IsLegal R image log → open_run log ≡ None → Rests R image log 1026

@@ -33,20 +33,17 @@ use Rattle.dvg_progress.proofs.Sending.{legal_before}
 use Rattle.dvg_progress.proofs.Writing.{start, all, SoFar, so_far, time_is}
 
 -- what these words leave out
-pub lives_all : (later : Log) → Throughout LivesOn later
-    → Throughout (λ log event entry. NotAll event) later
+pub lives_all : (later : Log) → Throughout LivesOn later → Throughout (λ log event entry. NotAll event) later
 lives_all [] lives = tt
 lives_all ((ResetAll bytes ⟼ entry) ∷ later) lives = absurd lives.0
 lives_all ((event ⟼ entry) ∷ later) lives = (tt, lives_all later lives.1)
 
-runs_all : (later : Log) → Throughout RunsOn later
-    → Throughout (λ log event entry. NotAll event) later
+runs_all : (later : Log) → Throughout RunsOn later → Throughout (λ log event entry. NotAll event) later
 runs_all [] runs = tt
 runs_all ((ResetAll bytes ⟼ entry) ∷ later) runs = absurd runs.0
 runs_all ((event ⟼ entry) ∷ later) runs = (tt, runs_all later runs.1)
 
-runs_strobe : (later : Log) → Throughout RunsOn later
-    → Throughout (λ log event entry. NotStrobe event) later
+runs_strobe : (later : Log) → Throughout RunsOn later → Throughout (λ log event entry. NotStrobe event) later
 runs_strobe [] runs = tt
 runs_strobe ((Strobe ⟼ entry) ∷ later) runs = absurd runs.0
 runs_strobe ((event ⟼ entry) ∷ later) runs = (tt, runs_strobe later runs.1)
@@ -99,8 +96,7 @@ open_shows R image log l is_open = by (open_run log) refl
         let bound = bound_of running.draft R running.checked in
         (running.draft, bound.0, running.shown, bound.1)
 
-one_tick : (event : Happening) (entry : Shown) (later : Log)
-    → ticks ((event ⟼ entry) ∷ later) ≤ suc (ticks later)
+one_tick : (event : Happening) (entry : Shown) (later : Log) → ticks ((event ⟼ entry) ∷ later) ≤ suc (ticks later)
 one_tick Tick entry later = omega arith
 one_tick event entry later = omega arith
 
@@ -133,8 +129,7 @@ module _ (R image : List ℕ) (F : List OpKind) where
     pub reached : (later : Log) → IsLegal R image (later ++ start R image before F)
         → Throughout LivesOn later → NoFrame later → length (all R image before F) ≤ ticks later
         → flipped (later ++ start R image before F)
-    reached [] l lives none time = at_flip [] (omega arith)
-        (so_far R image before F [] l lives (omega arith))
+    reached [] l lives none time = at_flip [] (omega arith) (so_far R image before F [] l lives (omega arith))
     reached ((event ⟼ entry) ∷ later) l lives none time =
         let more = one_tick event entry later in
         ⊎_elim
@@ -161,8 +156,7 @@ module _ (R image : List ℕ) (F : List OpKind) where
     first_shown n = ap published (at_zero_open begun refl) ∙ n.newest
 
     stays_shown : (later : Log) → IsLegal R image (later ++ begun) → Newest image F begun
-        → NoFrame later → Throughout RunsOn later → open_run (later ++ begun) ≢ None
-        → IsShown (later ++ begun) F
+        → NoFrame later → Throughout RunsOn later → open_run (later ++ begun) ≢ None → IsShown (later ++ begun) F
     stays_shown later l newest none runs is_open =
         (same_run R image F begun newest later l (runs_all later runs) none (runs_strobe later runs)
         is_open).shows F (first_shown newest)
@@ -182,17 +176,14 @@ module _ (R image : List ℕ) (F : List OpKind) where
     all_show [] l newest none runs = tt
     all_show ((event ⟼ entry) ∷ later) l newest none runs = (
       line_shows later event entry l newest none.1 runs.1,
-      all_show later l.2 newest none.1
-          runs.1,
+      all_show later l.2 newest none.1 runs.1,
     )
 
     over : IsLegal R image (draw ++ begun) → Newest image F begun → NoFrame draw
-        → Throughout RunsOn draw → 2 * n ≤ fetched_since (draw ++ begun)
-        → open_run (draw ++ begun) ≡ None
+        → Throughout RunsOn draw → 2 * n ≤ fetched_since (draw ++ begun) → open_run (draw ++ begun) ≡ None
     over l newest none runs enough = by (open_run (draw ++ begun)) refl
       where
-        by : (run : Option (List (ℕ × ℕ))) → open_run (draw ++ begun) ≡ run
-            → open_run (draw ++ begun) ≡ None
+        by : (run : Option (List (ℕ × ℕ))) → open_run (draw ++ begun) ≡ run → open_run (draw ++ begun) ≡ None
         by None o = o
         by (Some words) o =
             let is_open = some_run (open_run (draw ++ begun)) words o in
@@ -207,14 +198,12 @@ module _ (R image : List ℕ) (F : List OpKind) where
     same_once G k ((event ⟼ Done a w drew) ∷ later) once shown =
         let same : G ≡ F = same_Some _ _ (sym once.0 ∙ shown.0) in (
           same,
-          (one_picture F R bound.0 drew n k bound.1
-              (subst (λ H. IsPicture H R drew k) same once.1)).1,
+          (one_picture F R bound.0 drew n k bound.1 (subst (λ H. IsPicture H R drew k) same once.1)).1,
         )
     same_once G k ((event ⟼ entry) ∷ later) once shown = same_once G k later once shown.1
 
     pub draws : IsLegal R image (draw ++ begun) → Newest image F begun → NoFrame draw
-        → Throughout RunsOn draw → 2 * n ≤ fetched_since (draw ++ begun)
-        → DrawsOnce F R n begun draw
+        → Throughout RunsOn draw → 2 * n ≤ fetched_since (draw ++ begun) → DrawsOnce F R n begun draw
     draws l newest none runs enough =
         let it = at_end R image begun draw (over l newest none runs enough)
         (run_on R image begun [] refl draw l runs) in
@@ -224,14 +213,12 @@ module _ (R image : List ℕ) (F : List OpKind) where
 
   -- what is open when the frame is written is over in time
   halted : (written halt : Log) → IsLegal R image (halt ++ written) → Newest image F written
-      → NoFrame halt → Throughout LivesOn halt
-      → Throughout (λ log event entry. NotStrobe event) halt
+      → NoFrame halt → Throughout LivesOn halt → Throughout (λ log event entry. NotStrobe event) halt
       → ((G : List OpKind) (m : ℕ) → open_run written ≢ None → IsShown written G → IsBound G R m
       → 2 * m ≤ fetched_since (halt ++ written)) → open_run (halt ++ written) ≡ None
   halted written halt l newest none lives not_strobe enough = by (open_run (halt ++ written)) refl
     where
-      by : (run : Option (List (ℕ × ℕ))) → open_run (halt ++ written) ≡ run
-          → open_run (halt ++ written) ≡ None
+      by : (run : Option (List (ℕ × ℕ))) → open_run (halt ++ written) ≡ run → open_run (halt ++ written) ≡ None
       by None o = o
       by (Some words) o =
           let is_open = some_run (open_run (halt ++ written)) words o in
@@ -287,8 +274,7 @@ shown_in_time R image F n before write halt send draw entry l none write_lives e
     let at_started = newest_step R image F ready_log Strobe entry started_l tt
     (started_not entry is) at_ready in
     let P : Shown → Type 0 = λ e. IsLegal R image (draw ++ (Strobe ⟼ e) ∷ ready_log)
-    → Newest image F ((Strobe ⟼ e) ∷ ready_log)
-    → 2 * n ≤ fetched_since (draw ++ (Strobe ⟼ e) ∷ ready_log)
+    → Newest image F ((Strobe ⟼ e) ∷ ready_log) → 2 * n ≤ fetched_since (draw ++ (Strobe ⟼ e) ∷ ready_log)
     → DrawsOnce F R n ((Strobe ⟼ e) ∷ ready_log) draw in
     subst P (sym is) (λ l newest fetched. draws R image F n bound ready_log draw l newest none_draw
     (runs_on draw runs) fetched) l at_started fetched

@@ -40,12 +40,10 @@ record Reaches (old new : Log) (most : ℕ) : Type 0 where
   without : Without resets later
   few : length later ≤ most
 
-both_without : (one other : Log) → Without resets one → Without resets other
-    → Without resets (one ++ other)
+both_without : (one other : Log) → Without resets one → Without resets other → Without resets (one ++ other)
 both_without [] other one_is other_is = other_is
 both_without ((ResetAll bytes ⟼ entry) ∷ one) other one_is other_is = absurd one_is
-both_without ((event ⟼ entry) ∷ one) other one_is other_is =
-    (one_is.0, both_without one other one_is.1 other_is)
+both_without ((event ⟼ entry) ∷ one) other one_is other_is = (one_is.0, both_without one other one_is.1 other_is)
 
 and_then : {old mid new : Log} {few more : ℕ} → Reaches old mid few → Reaches mid new more
     → Reaches old new (few + more)
@@ -55,15 +53,13 @@ and_then {old = old} one other =
     let few_other = other.few in
     record {
       later = other.later ++ one.later;
-      split = other.split ∙ ap (λ log. other.later ++ log) one.split
-          ∙ sym (append_assoc other.later one.later old);
+      split = other.split ∙ ap (λ log. other.later ++ log) one.split ∙ sym (append_assoc other.later one.later old);
       without = both_without other.later one.later other.without one.without;
       few = omega arith;
     }
 
 later_reaches : (log later : Log) → Without resets later → Reaches log (later ++ log) (length later)
-later_reaches log later without = record
-    { later = later; split = refl; without = without; few = omega arith }
+later_reaches log later without = record { later = later; split = refl; without = without; few = omega arith }
 
 at_most : {old new : Log} {few most : ℕ} → few ≤ most → Reaches old new few → Reaches old new most
 at_most room path =
@@ -98,8 +94,7 @@ strobe_reaches : (log : Log) → Reaches log ((Strobe ⟼ Started) ∷ log) 1
 strobe_reaches log = record {
   later = (Strobe ⟼ Started) ∷ [];
   split = refl;
-  without =
-      ((λ e. cc, (λ e. cc, tt)), tt);
+  without = ((λ e. cc, (λ e. cc, tt)), tt);
   few = omega arith;
 }
 
@@ -107,8 +102,7 @@ offer_reaches : (log : Log) (F : List OpKind) → Reaches log ((Offer F ⟼ Offe
 offer_reaches log F = record {
   later = (Offer F ⟼ Offered) ∷ [];
   split = refl;
-  without =
-      ((λ e. cc, (λ e. cc, tt)), tt);
+  without = ((λ e. cc, (λ e. cc, tt)), tt);
   few = omega arith;
 }
 
@@ -161,18 +155,11 @@ module _ (R image : List ℕ) where
 
   -- a run that is open is begun anew, and fetched to its end
   closes : (log : Log) (m : ℕ) → IsLegal R image log
-      → ((G : List OpKind) (k : ℕ) → published log ≡ Some G → IsBound G R k → k ≤ m)
-      → Closes log (2 * m + 1)
+      → ((G : List OpKind) (k : ℕ) → published log ≡ Some G → IsBound G R k → k ≤ m) → Closes log (2 * m + 1)
   closes log m l low = by (open_run log) refl
     where
       by : (run : Option (List (ℕ × ℕ))) → open_run log ≡ run → Closes log (2 * m + 1)
-      by None o = record {
-        now = log;
-        legal = l;
-        none = o;
-        reaches =
-            at_most (omega arith) (later_reaches log [] tt);
-      }
+      by None o = record { now = log; legal = l; none = o; reaches = at_most (omega arith) (later_reaches log [] tt) }
       by (Some words) o =
           let draws = can_draw R image log l ((kept R image log l
           (words_are_whole R image log l)).1.started words o) in
@@ -185,8 +172,7 @@ module _ (R image : List ℕ) where
             now = last ∷ drawn.now;
             legal = drawn.legal;
             none = refl;
-            reaches =
-                at_most (omega arith) (and_then drawn.reaches one);
+            reaches = at_most (omega arith) (and_then drawn.reaches one);
           }
 
   -- a frame was written and its strobe sent
@@ -199,8 +185,7 @@ module _ (R image : List ℕ) where
 
   -- the driver rests
   sends_at_rest : (log : Log) (F : List OpKind) (first : Bool) → IsLegal R image log
-      → open_run log ≡ None → IsDraft F → Accepts F R
-      → place_of_life (life image log) ≡ Some (Resting first)
+      → open_run log ≡ None → IsDraft F → Accepts F R → place_of_life (life image log) ≡ Some (Resting first)
       → Sends log F (2 * size F + 5)
   sends_at_rest log F first l none draft accepts rests =
       let taken : Log = (Offer F ⟼ Offered) ∷ log in
@@ -232,8 +217,7 @@ module _ (R image : List ℕ) where
         legal = sends.legal;
         newest = newest.newest;
         sent = is_sent image (sends.later ++ written) (ticks sends.later) (omega arith) ready.1;
-        reaches = at_most (omega arith) (and_then (offer_reaches log F)
-            (and_then to_written to_sent));
+        reaches = at_most (omega arith) (and_then (offer_reaches log F) (and_then to_written to_sent));
       }
 
   sends_frame : (log : Log) (F : List OpKind) → IsLegal R image log → open_run log ≡ None
@@ -249,8 +233,7 @@ module _ (R image : List ℕ) where
         now = sends.now;
         legal = sends.legal;
         newest = sends.newest;
-        sent =
-            sends.sent;
+        sent = sends.sent;
         reaches = at_most (omega arith) (and_then resting sends.reaches);
       }
 
@@ -258,8 +241,7 @@ module _ (R image : List ℕ) where
 as_split : (R image : List ℕ) {old new : Log} {most : ℕ} (path : Reaches old new most) (a w : ℕ)
     (drew : List Stroke) → IsLegal R image ((Fetch ⟼ Done a w drew) ∷ new)
     → IsLegal R image ((Fetch ⟼ Done a w drew) ∷ path.later ++ old)
-as_split R image path a w drew l = subst (λ all. IsLegal R image ((Fetch ⟼ Done a w drew) ∷ all))
-    path.split l
+as_split R image path a w drew l = subst (λ all. IsLegal R image ((Fetch ⟼ Done a w drew) ∷ all)) path.split l
 
 pub never_stuck : NeverStuck
 never_stuck R image log F m n l draft accepts bound low =

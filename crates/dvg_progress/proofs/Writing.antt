@@ -44,8 +44,7 @@ frame_time half F flipped =
     let end = zero_time half flipped in
     omega arith
   where
-    zero_time : (half : Half) (flipped : Bool)
-        → length (word_zero half (not flipped)) ≡ (if flipped then 1 else 2)
+    zero_time : (half : Half) (flipped : Bool) → length (word_zero half (not flipped)) ≡ (if flipped then 1 else 2)
     zero_time half true = refl
     zero_time half false = refl
 
@@ -108,10 +107,8 @@ module _ (R image : List ℕ) (before : Log) (F : List OpKind) where
 
   -- what was written after this many ticks
   pub record SoFar (later : Log) : Type 0 where
-    pub stands : place_of_life (life image (later ++ start)) ≡ Some
-        (with_left (drop (ticks later) all))
-    pub life_is : life image (later ++ start) ≡ reverse (wrote (take (ticks later) all)) ++ life
-        image start
+    pub stands : place_of_life (life image (later ++ start)) ≡ Some (with_left (drop (ticks later) all))
+    pub life_is : life image (later ++ start) ≡ reverse (wrote (take (ticks later) all)) ++ life image start
     pub accepted : offered (later ++ start) ≡ Some F
     pub flipped : ticks later ≡ length all → published (later ++ start) ≡ Some F
 
@@ -128,8 +125,7 @@ module _ (R image : List ℕ) (before : Log) (F : List OpKind) where
             ∙ ap Some (sym (with_left-append front half (not (has_flip (life image before)))));
         life_is = refl;
         accepted = refl;
-        flipped = λ none. absurd (some_writes all
-            (frame_ends half F (not (has_flip (life image before)))) none);
+        flipped = λ none. absurd (some_writes all (frame_ends half F (not (has_flip (life image before)))) none);
       }
 
   tick_step : (later : Log) (entry : Shown) → IsLegal R image ((Tick ⟼ entry) ∷ later ++ start)
@@ -158,17 +154,14 @@ module _ (R image : List ℕ) (before : Log) (F : List OpKind) where
 
   plain_step : (later : Log) (event : Happening) (entry : Shown)
       → IsLegal R image ((event ⟼ entry) ∷ later ++ start) → LivesOn later event entry
-      → ticks ((event ⟼ entry) ∷ []) ≡ 0
-      → ticks ((event ⟼ entry) ∷ later) ≡ ticks later → SoFar later
+      → ticks ((event ⟼ entry) ∷ []) ≡ 0 → ticks ((event ⟼ entry) ∷ later) ≡ ticks later → SoFar later
       → SoFar ((event ⟼ entry) ∷ later)
   plain_step later event entry l lives none same so =
       let q = quiet R image (later ++ start) event entry (with_left (drop (ticks later) all)) l
       lives none so.stands (left_busy (drop (ticks later) all)) in
       record {
-        stands = ap place_of_life q.life_is ∙ so.stands
-            ∙ ap (λ k. Some (with_left (drop k all))) (sym same);
-        life_is = q.life_is ∙ so.life_is ∙ ap
-            (λ k. reverse (wrote (take k all)) ++ life image start) (sym same);
+        stands = ap place_of_life q.life_is ∙ so.stands ∙ ap (λ k. Some (with_left (drop k all))) (sym same);
+        life_is = q.life_is ∙ so.life_is ∙ ap (λ k. reverse (wrote (take k all)) ++ life image start) (sym same);
         accepted = q.offered_is ∙ so.accepted;
         flipped = λ end. ap (option_and_then offered) q.flip_is ∙ so.flipped (sym same ∙ end);
       }
@@ -201,7 +194,6 @@ published_in_time R image before later F l lives time =
     let so = so_far R image before F later l (lives_on later lives) (omega arith) in
     let whole : take (ticks later) (all R image before F) ≡ all R image before F =
     take_all (ticks later) (all R image before F) (omega arith) in (
-      so.life_is ∙ ap (λ writes. reverse (wrote writes) ++ life image (start R image before F))
-          whole,
+      so.life_is ∙ ap (λ writes. reverse (wrote writes) ++ life image (start R image before F)) whole,
       so.flipped end,
     )
