@@ -23,26 +23,31 @@ ghost use Rattle.dvg_calls_6502.specs.Whole.{BuildsFrame, BuildsLife, SomeFrame}
 ghost use Rattle.dvg_calls_6502.specs.Tables.{CheckedExpressible, TableLaw, TableMisses};
 
 /// What is written for the table of a frame is the frame in either half.
+#[tactic(auto, using(crate::proofs::TableFed::table_law))]
 pub fn tables()
     ensures { TableLaw }
 {}
 
 /// A table can express each checked draft whose operations name the ROM from 400 on.
+#[tactic(auto, using(crate::proofs::Checked::checked_expressible))]
 pub fn checked_tables()
     ensures { CheckedExpressible }
 {}
 
 /// An example of a table that says something else: its frame names a word of the ROM below 400.
+#[tactic(auto, using(crate::proofs::Begun::table_misses))]
 pub fn table_misses()
     ensures { TableMisses }
 {}
 
 /// After `dvg_reset` the driver stands at its start, whatever memory held.
+#[tactic(auto, using(crate::proofs::Offering::reset_refines))]
 pub fn reset()
     ensures { ResetRefines }
 {}
 
 /// Each call of `dvg_tick` does the script's next action.
+#[tactic(auto, using(crate::proofs::Ticking::tick_refines))]
 pub fn tick()
     ensures { TickRefines }
 {}
@@ -65,6 +70,7 @@ pub fn redraw()
 /// life of the script. A frame that the program builds counts as taken at `dvg_open`. The next call
 /// may begin as soon as the answer of the one before is decided, so the ticks of an NMI are calls
 /// like the others.
+#[tactic(auto, using(crate::proofs::Sessions::calls_live))]
 pub fn calls_live()
     ensures { CallsLive }
 {}
@@ -81,11 +87,13 @@ pub fn some_calls()
 
 /// A call of `dvg_ticks` returns, also amid interrupts, with its count at 0. It changes at most the
 /// driver's bytes, the hardware, and two bytes of the stack.
+#[tactic(auto, using(crate::proofs::Programs::ticks_come_back))]
 pub fn ticks_return()
     ensures { TicksReturn }
 {}
 
 /// A call of `dvg_run` that has returned changed at most the same bytes, also amid interrupts.
+#[tactic(auto, using(crate::proofs::Programs::run_spares_rest))]
 pub fn run_spares()
     ensures { RunSpares }
 {}
@@ -93,11 +101,13 @@ pub fn run_spares()
 /// An NMI's routine is a program like another one. Where it comes to an RTI, with S and the three
 /// bytes that the NMI pushed as they were, the program goes on where the NMI came, with the flags
 /// of then; A, X, Y and memory are as the routine left them.
+#[tactic(auto, using(crate::proofs::Resuming::interrupt_returns))]
 pub fn interrupt_returns()
     ensures { InterruptReturns }
 {}
 
 /// Calls make at most one life.
+#[tactic(auto, using(crate::proofs::Sessions::one_life))]
 pub fn one_life()
     ensures { OneLife }
 {}
@@ -105,6 +115,7 @@ pub fn one_life()
 /// What a program builds is known in hindsight: where each call that puts a part brings the words
 /// of an operation, the first one of a LABS, there are drafts with which its calls are as the laws
 /// speak of them: what was put, and a HALT, also where a frame is given up.
+#[tactic(auto, using(crate::proofs::Programs::hindsight))]
 pub fn hindsight()
     ensures { Hindsight }
 {}
@@ -121,6 +132,7 @@ pub fn answers()
 /// headline: no byte is written in the half being drawn, and each picture is that of the frame
 /// newest published. Of a frame that the program builds each shape that it calls is one that the
 /// check accepts when it is called once.
+#[tactic(auto, using(crate::proofs::Joined::board_keeps))]
 pub fn board_keeps()
     ensures { BoardKeeps }
 {}

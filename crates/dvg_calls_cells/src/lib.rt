@@ -28,6 +28,7 @@ pub fn cells_step()
 /// wherever a cycle would begin, and else writes neither the vector RAM nor the strobe: there is a
 /// log that its clocks make; it is legal and keeps the headline, and the RAM holds what it says.
 /// What the program reads by itself isn't in it, and before the first call it may write the RAM.
+#[tactic(auto, using(crate::proofs::Playing::cells_keep))]
 pub fn cells_keep()
     ensures { CellsKeep }
 {
@@ -86,12 +87,14 @@ pub fn machine_shows()
 
 /// An example: cells since power-up, whose program tells the watchdog, boot the driver, and calls
 /// of `dvg_tick` look at byte 001 and at the flag.
+#[tactic(auto, using(crate::proofs::Example::some_played))]
 pub fn some_played()
     ensures { SomePlayed }
 {}
 
 /// And one that draws: the driver boots and takes a table, `dvg_run` writes and publishes its frame
 /// and sends a strobe, and while the program idles the core draws it, as its log says.
+#[tactic(auto, using(crate::proofs::Drawing::some_drawn))]
 pub fn some_drawn()
     ensures { SomeDrawn }
 {

@@ -31,11 +31,13 @@ pub fn board_keeps()
 
 /// What the processor reads is what the log has: the RAM's byte, and the flag. Its strobe starts
 /// the core, and the core is served in each clock in which the RAM is free for it.
+#[tactic(auto, using(crate::proofs::Answered::answers_next))]
 pub fn board_answers()
     ensures { OfEachBoard (λ R image held log clocks. AnswersNext image held log clocks) }
 {}
 
 /// A clock of any board, whoever drives it, and whatever came before.
+#[tactic(auto, using(crate::proofs::Answered::board_works))]
 pub fn board_works()
     ensures { BoardWorks }
 {}
@@ -47,6 +49,7 @@ pub fn board_shows()
 
 /// There is such a board: over a RAM and a ROM of zeros the driver boots, writes a frame, publishes
 /// it and sends a strobe, and the core draws the frame's picture.
+#[tactic(auto, using(crate::proofs::Example::some_board))]
 pub fn some_board()
     ensures { SomeBoard }
 {}

@@ -15,6 +15,7 @@ ghost use Rattle.dvg_cells_core.specs.Tells.{PinsRest, PinsTell};
 /// `x` and `y` are its beam, the strokes shown since the newest start are its strokes, and after
 /// each fetched word or hole `done` and `fault` are the answer that the definition of the generator
 /// gives. Where that is a fault, `done` and `stroke` are 0; after all else all three are.
+#[tactic(auto, using(crate::proofs::Whole::refines))]
 pub fn core_refines()
     ensures { CoreRefines }
 {}
@@ -35,6 +36,7 @@ pub fn pins_tell()
 {}
 
 /// An example: over the clocks of one frame the core shows the frame's stroke, and `done`.
+#[tactic(auto, using(crate::proofs::Example::draws_some))]
 pub fn draws_some()
     ensures { DrawsSome }
 {}

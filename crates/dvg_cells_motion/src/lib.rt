@@ -18,12 +18,14 @@ ghost use Rattle.dvg_cells_motion.specs.Times.{ResetDraws, TakesPicture};
 
 /// In the 2^(s+1) ticks of a vector at scale s, 0 to 9, a rate multiplier gives as many pulses as
 /// the vector is long, in whole units: a magnitude of m moves by (m * 2^s + 256) / 512.
+#[tactic(auto, using(crate::proofs::Ticks::pulses_are))]
 pub fn pulses_are()
     ensures { PulsesAre }
 {}
 
 /// In each clock of a vector, whatever the other pins were since: the counters are where the pulses
 /// so far led them, and `going` is high until the vector's last tick is over.
+#[tactic(auto, using(crate::proofs::Moves::goes_by_pulses_law))]
 pub fn goes_by_pulses()
     ensures { GoesByPulses }
 {}
@@ -35,6 +37,7 @@ pub fn shows()
 {}
 
 /// After a vector the counters are those that the definition of the generator gives, and stay so.
+#[tactic(auto, using(crate::proofs::Moves::moves_right_law))]
 pub fn moves_right()
     ensures { MovesRight }
 {}
@@ -49,6 +52,7 @@ pub fn follows()
 /// The whole machine, after each list of clocks since power-up, whatever the processor did in them:
 /// at rest the counters are those that followed all moves of the run, dark ones too. Where `hold`
 /// is low all is at rest, so no byte is fetched while a vector goes.
+#[tactic(auto, using(crate::proofs::Wiring::machine_follows_law))]
 pub fn machine_follows()
     ensures { MachineFollows }
 {}
@@ -61,11 +65,13 @@ pub fn halted_tells()
 
 /// After a byte `hold` is high for the ticks of what it ends: one of its own, two of a JSRL, and
 /// those of a vector, however short that is. In the tick after them a byte may be fetched again.
+#[tactic(auto, using(crate::proofs::Wiring::takes_time_law))]
 pub fn takes_time()
     ensures { TakesTime }
 {}
 
 /// A start has one tick of its own; also amid a vector, whose ticks are still to come then.
+#[tactic(auto, using(crate::proofs::Resets::start_takes_law))]
 pub fn start_takes()
     ensures { StartTakes }
 {}
@@ -80,6 +86,7 @@ pub fn takes_picture()
 
 /// After a reset, also amid a vector, the board's flag is high at once, and the pin `halted` as
 /// soon as the ticks came that the vector and its instruction had left: it is drawn to its end.
+#[tactic(auto, using(crate::proofs::Resets::reset_draws_law))]
 pub fn reset_draws()
     ensures { ResetDraws }
 {}
@@ -91,12 +98,14 @@ pub fn vectors_show()
 {}
 
 /// An example: a machine that draws a vector, after which x has moved by one unit.
+#[tactic(auto, using(crate::proofs::Example::some_motion_law))]
 pub fn some_motion()
     ensures { SomeMotion }
 {}
 
 /// An example: a picture of a HALT alone, which takes four ticks where memory answers at once. So
 /// the premises of `takes_picture` can be met.
+#[tactic(auto, using(crate::proofs::Example::some_picture_law))]
 pub fn some_picture()
     ensures { SomePicture }
 {}

@@ -52,6 +52,7 @@ pub fn test_rom_on_cells_keeps()
 }
 
 /// None of these is empty: each game's cells can be powered, whatever stands beside its ROM.
+#[tactic(auto, using(crate::proofs::Powering::can_be_powered))]
 pub fn can_be_powered()
     ensures { CanBePowered }
 {}

@@ -8,6 +8,7 @@ pub fn place_tells()
 {}
 
 /// For each state of the HALT flag, exactly one action goes on a life that the script allows.
+#[tactic(auto, using(crate::proofs::OneAction::one_action))]
 pub fn one_action()
     ensures { OneAction }
 {}

@@ -115,6 +115,7 @@ pub(crate) fn word_at(draft: &Counted, half: Half, n: u16) -> u16
 }
 
 // Returns the words of operation `i` of `draft`, laid out for `half`.
+#[tactic(auto, using(crate::proofs::Firsts::names_some))]
 pub(crate) fn spelling(draft: &Counted, half: Half, i: usize) -> Words
     requires begins { Begins draft.now }
     requires within { i < length draft.now }

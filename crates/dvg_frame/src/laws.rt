@@ -3,11 +3,13 @@ ghost use Rattle.dvg_frame.specs.Laws.{AcceptedStays, GrownStays, LoopsComeBack,
 ghost use Rattle.dvg_frame.specs.Laws.{OneFault, OnePicture};
 
 /// At most one fault is picked of a draft, over any ROM.
+#[tactic(auto, using(crate::proofs::OneFault::one_fault))]
 pub fn one_fault()
     ensures { OneFault }
 {}
 
 /// No fault is picked of a draft that has none and no loop.
+#[tactic(auto, using(crate::proofs::OneFault::accepted_stays))]
 pub fn accepted_stays()
     ensures { AcceptedStays }
 {}
@@ -23,12 +25,14 @@ pub fn one_picture()
 {}
 
 /// A closed draft has a loop exactly where steps at one depth lead from a reached pair back to it.
+#[tactic(auto, using(crate::proofs::Turns::loop_comes_back, crate::proofs::Turns::back_loops))]
 pub fn loops_come_back()
     ensures { LoopsComeBack }
 {}
 
 /// A draft that is closed over a ROM of 2,048 bytes is closed over the ROM that `Rom::grow` makes
 /// of it, with the same pictures.
+#[tactic(auto, using(crate::proofs::Grown::stays_closed, crate::proofs::Grown::same_pictures))]
 pub fn grown_stays()
     ensures { GrownStays }
 {}

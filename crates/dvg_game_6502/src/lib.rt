@@ -52,6 +52,7 @@ pub fn vectors_call()
 {}
 
 /// Such accesses, with the frames that were taken, are a life of the driver's script.
+#[tactic(auto, using(crate::proofs::Lives::calls_live_on))]
 pub fn calls_live_on()
     ensures { CallsLiveOn }
 {}

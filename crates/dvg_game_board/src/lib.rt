@@ -37,6 +37,7 @@ pub fn vectors_keep()
 
 /// The laws aren't empty: a run of a game that the checker accepts, up to the driver's read of byte
 /// 001, the first of its boot.
+#[tactic(auto, using(crate::proofs::SomeCabinet::some_cabinet))]
 pub fn some_cabinet()
     ensures { SomeCabinet }
 {}

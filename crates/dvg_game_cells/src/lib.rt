@@ -39,6 +39,7 @@ pub fn runs_go_on()
 
 /// The laws aren't empty: a run of the cells of a game that the checker accepts, from power-up up
 /// to where the driver reads byte 001.
+#[tactic(auto, using(crate::proofs::Example::some_whole))]
 pub fn some_whole()
     ensures { SomeWhole }
 {}

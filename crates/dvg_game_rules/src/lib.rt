@@ -37,31 +37,37 @@ pub fn starts_up()
 {}
 
 /// The game of examples/asteroid_game: each run of its bytes keeps to the premises.
+#[tactic(auto, using(crate::proofs::Asteroid::runs_safely))]
 pub fn asteroid_is_safe()
     ensures { AsteroidRunsSafely }
 {}
 
 /// The game of examples/bat: each run of its bytes keeps to the premises.
+#[tactic(auto, using(crate::proofs::Bat::runs_safely))]
 pub fn bat_is_safe()
     ensures { BatRunsSafely }
 {}
 
 /// The program of examples/first: each run of its bytes keeps to the premises.
+#[tactic(auto, using(crate::proofs::First::runs_safely))]
 pub fn first_is_safe()
     ensures { FirstRunsSafely }
 {}
 
 /// The game of examples/board: each run of its bytes keeps to the premises.
+#[tactic(auto, using(crate::proofs::Rocks::runs_safely))]
 pub fn rocks_is_safe()
     ensures { RocksRunsSafely }
 {}
 
 /// The program of examples/test_rom: each run of its bytes keeps to the premises.
+#[tactic(auto, using(crate::proofs::TestRom::runs_safely))]
 pub fn test_rom_is_safe()
     ensures { TestRomRunsSafely }
 {}
 
 /// The laws aren't empty: a run of examples/first, which shows a frame, with two NMIs.
+#[tactic(auto, using(crate::proofs::Example::some_run))]
 pub fn some_run()
     ensures { SomeRun }
 {}

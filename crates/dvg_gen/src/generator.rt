@@ -86,6 +86,7 @@ impl<A: Allocator> Model for Generator<A> {
 impl<A: Allocator + Copy> Generator<A> {
     /// Returns a new generator, which is halted and has no picture. Its strokes will be in memory
     /// of `alloc`.
+    #[tactic(auto, using(crate::proofs::Standing::stands_new))]
     pub fn new(alloc: A) -> Generator<A>
         ensures stands { HasTaken result [] None }
         ensures halted { result.is_open ≡ false }
@@ -124,6 +125,7 @@ impl<A: Allocator + Copy> Generator<A> {
 
     /// Halts the generator. A run that was open is abandoned with its strokes and its low byte; the
     /// beam stays, and so does the picture of the newest run that came to a HALT.
+    #[tactic(auto, using(crate::proofs::Standing::stands_reset))]
     pub fn reset(&mut self)
         ensures stands { (history : List Told) (low : Option ℕ) → HasTaken self.old history low
             → HasTaken self.new (Reset ∷ history) None }
@@ -592,6 +594,7 @@ fn before(address: u16) -> u16
 
 // Returns the instruction of `word`, which has an opcode of B to F.
 #[inline(always)]
+#[tactic(auto, using(crate::proofs::Words::completes_one))]
 fn of_one(word: u16) -> Code
     requires { 0xB000 ≤ word }
     ensures { Completes None word result }

@@ -114,6 +114,7 @@ impl<A: Allocator + Copy> Trace<A> {
 
 impl<A: Allocator> Trace<A> {
     /// Returns the number of events, at most 65,536.
+    #[tactic(auto, using(crate::proofs::Traces::count_of))]
     pub fn len(&self) -> usize
         ensures value { result ≡ length self.now }
         ensures most { result ≤ MOST_EVENTS }

@@ -194,6 +194,7 @@ impl MomentJudge {
     }
 
     /// Returns whether a run is open.
+    #[tactic(auto, using(crate::proofs::Standing::open_answer))]
     pub fn is_open(&self) -> bool
         ensures { (log : Log) → StandsAfter self.now log → IsTrue result ↔ (open_run log ≢ None) }
     {
@@ -201,6 +202,7 @@ impl MomentJudge {
     }
 
     /// Returns whether a run is open that is mixed.
+    #[tactic(auto, using(crate::proofs::Standing::torn_answer))]
     pub fn is_torn(&self) -> bool
         ensures { (log : Log) → StandsAfter self.now log → IsTrue result ↔ IsTorn log }
     {
@@ -208,6 +210,7 @@ impl MomentJudge {
     }
 
     /// Takes a line that says that a strobe began a run.
+    #[tactic(auto, using(crate::proofs::Standing::started_stands))]
     pub fn started(&mut self)
         ensures { (log : Log) → StandsAfter self.old log
             → StandsAfter self.new ((Strobe ⟼ Started) ∷ log) }
@@ -287,6 +290,7 @@ impl MomentJudge {
     }
 
     /// Takes a line that says nothing of memory or of a run.
+    #[tactic(auto, using(crate::proofs::Standing::passed_stands))]
     pub fn passed(&self)
         ensures { (log : Log) → StandsAfter self.now log
             → StandsAfter self.now ((Tick ⟼ Acted Idle) ∷ log) }
@@ -333,6 +337,7 @@ impl MomentJudge {
     }
 
     // Takes what the driver did.
+    #[tactic(auto, using(crate::proofs::Taking::action_stands))]
     fn take_action(&mut self, action: Action)
         ensures { (log : Log) → StandsAfter self.old log
             → StandsAfter self.new ((Tick ⟼ Acted action) ∷ log) }

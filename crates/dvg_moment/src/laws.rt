@@ -14,42 +14,49 @@ pub fn of_one_moment()
 
 /// In every legal log each run that reaches HALT has such a moment at which each word that it
 /// fetched stands in memory as it was read, a byte at a time.
+#[tactic(auto, using(crate::proofs::Stood::stood_then))]
 pub fn stood_then()
     ensures { Always StoodThen }
 {}
 
 /// In every legal log each run that reaches HALT has such a moment, and drew what a run over that
 /// moment's memory draws, from any beam.
+#[tactic(auto, using(crate::proofs::DrewAMoment::drew_a_moment))]
 pub fn drew_a_moment()
     ensures { Always DrewAMoment }
 {}
 
 /// Whoever drives: a consistent run that reaches HALT drew what a run over that moment's memory
 /// draws. Only what the generator does has to be right: it fetches what is in memory then.
+#[tactic(auto, using(crate::proofs::DrawsTheMoment::draws_the_moment))]
 pub fn draws_the_moment()
     ensures { DrawsTheMoment stands }
 {}
 
 /// Whoever drives, and whatever was in memory at first: where a run that reaches HALT is of one
 /// moment by what its log alone tells, it drew what a run over that moment's memory draws.
+#[tactic(auto, using(crate::proofs::Truth::told_is_enough))]
 pub fn told_is_enough()
     ensures { DrawsTheMoment (λ image. told) }
 {}
 
 /// Each legal log is one in which the generator fetches what is in memory then, so the laws above
 /// that hold whoever drives are of legal logs, too.
+#[tactic(auto, using(crate::proofs::Small::legal_is_played))]
 pub fn legal_is_played()
     ensures { Always IsPlayed }
 {}
 
 /// Whoever drives, nothing that is read contradicts what the log told. So where a reading does, a
 /// writer isn't in the log, or the log isn't that of such a generator.
+#[tactic(auto, using(crate::proofs::Truth::never_contradicts))]
 pub fn never_contradicts()
     ensures { NeverContradicts }
 {}
 
 /// Whoever drives: a write that changes a byte by what the log told, and changes nothing in memory,
 /// is of a byte that the log told nothing of. By no other write a run is called torn that isn't.
+#[tactic(auto, using(crate::proofs::Truth::errs_untold))]
 pub fn errs_untold()
     ensures { ErrsUntold }
 {}

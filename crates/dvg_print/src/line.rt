@@ -39,6 +39,7 @@ pub(crate) fn glyph(digit: usize) -> u8
 
 // Returns the two hexadecimal digits of `byte`.
 #[inline(always)]
+#[tactic(auto, using(crate::proofs::HexPairs::pair_at))]
 pub(crate) fn pair(byte: u8) -> (u8, u8)
     ensures { result.0 ∷ result.1 ∷ [] ≡ hex_2 byte }
 {

@@ -66,6 +66,7 @@ pub(crate) const RESETALL: Name = Name {
 /// Returns what stands in `text` after `name`. Returns `None` where it doesn't begin with that, or
 /// has fewer than 12 bytes.
 #[inline(always)]
+#[tactic(auto, using(crate::proofs::EventHeads::after_both))]
 pub(crate) fn after_name(text: &[u8], name: Name) -> Option<&[u8]>
     ensures { IfSome result (λ rest. text.now ≡ name_bytes name ++ rest.now) }
 {

@@ -13,16 +13,19 @@ pub fn one_meaning()
 {}
 
 /// What is said of a ROM gives at most one ROM.
+#[tactic(auto, using(crate::proofs::OneRom::one_rom))]
 pub fn one_rom()
     ensures { OneRom }
 {}
 
 /// What lines state of a ROM gives a ROM.
+#[tactic(auto, using(crate::proofs::StatedRom::each_rom))]
 pub fn each_rom()
     ensures { EachRom }
 {}
 
 /// A text has at most one fault.
+#[tactic(auto, using(crate::proofs::OneStop::one_text_fault))]
 pub fn one_text_fault()
     ensures { OneTextFault }
 {}
@@ -46,12 +49,14 @@ pub fn one_trace_meaning()
 {}
 
 /// The text of a trace has at most one fault.
+#[tactic(auto, using(crate::proofs::OneTrace::one_trace_fault))]
 pub fn one_trace_fault()
     ensures { OneTraceFault }
 {}
 
 /// No text of a trace lacks both a meaning and a fault: events with the bytes of a ROM, or what is
 /// wrong with it.
+#[tactic(auto, using(crate::proofs::TraceOrFault::no_trace_lacks_both))]
 pub fn no_trace_lacks_both()
     ensures { NoTraceLacksBoth }
 {}

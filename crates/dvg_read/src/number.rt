@@ -32,6 +32,7 @@ const HEX_DIGITS: [u8; 256] = [
 
 /// Returns the value of `byte` as a hexadecimal digit of either case, and 16 where it isn't one.
 #[inline(always)]
+#[tactic(auto, using(crate::proofs::HexDigits::entry))]
 pub fn digit_of(byte: u8) -> u8
     ensures { result ≡ min 16 (digit_value byte) }
 {

@@ -97,6 +97,7 @@ fn labs(text: &[u8]) -> Option<(Op, &[u8])>
 // Reads the rest of the line of a call from `text`, after its name and a space. Returns the
 // operation, and what stands after the line.
 #[inline(always)]
+#[tactic(auto, using(crate::proofs::Heads::call_head))]
 fn call(text: &[u8]) -> Option<(Op, &[u8])>
     ensures { IfSome result (λ head. HasOp (codes "call " ++ text.now) head.0 head.1.now) }
 {
@@ -107,6 +108,7 @@ fn call(text: &[u8]) -> Option<(Op, &[u8])>
 // Reads the rest of the line of a jump from `text`, after its name and a space. Returns the
 // operation, and what stands after the line.
 #[inline(always)]
+#[tactic(auto, using(crate::proofs::Heads::jump_head))]
 fn jump(text: &[u8]) -> Option<(Op, &[u8])>
     ensures { IfSome result (λ head. HasOp (codes "jump " ++ text.now) head.0 head.1.now) }
 {

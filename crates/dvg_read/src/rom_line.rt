@@ -113,6 +113,7 @@ impl RomWords {
 }
 
 /// Puts `word` at the place `k`, counted in words from 0, of `bytes`, the low byte first.
+#[tactic(auto, using(crate::proofs::GivenWords::set_fits))]
 pub fn put_word(bytes: &mut [u8], k: usize, word: u16)
     requires { 2 * k + 1 < length bytes.old }
     ensures word { word_in bytes.new k ≡ word }

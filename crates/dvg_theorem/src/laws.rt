@@ -17,6 +17,7 @@ pub fn undisturbed()
 {}
 
 /// No run over a memory as in `undisturbed` comes to word zero again, once it has fetched it.
+#[tactic(auto, using(crate::proofs::Law::only_once))]
 pub fn word_zero_only_first()
     ensures { OnlyFirst }
 {}
@@ -28,18 +29,21 @@ pub fn ends_in_time()
 {}
 
 /// A list of events has at most one legal log. That it has one is not said here.
+#[tactic(auto, using(crate::proofs::OneLog::same_log))]
 pub fn one_log()
     ensures { SameLog }
 {}
 
 /// In every legal log no byte is written in the half being drawn. What a reset of the whole system
 /// puts into the RAM isn't a write; it ends the run.
+#[tactic(auto, using(crate::proofs::Headline::never_torn))]
 pub fn never_torn()
     ensures { Always (λ R image. SparesDrawn) }
 {}
 
 /// In every legal log the generator never faults: no run meets a hole, makes a fifth call or
 /// returns without one. `always_bounded` says how long a run can be.
+#[tactic(auto, using(crate::proofs::Headline::never_faults))]
 pub fn never_faults()
     ensures { Always (λ R image. NoFault) }
 {}
@@ -47,6 +51,7 @@ pub fn never_faults()
 /// In every legal log each run that reaches HALT drew exactly the picture of the frame that was
 /// newest published when it fetched word zero, and fetched as many words as the picture has. That a
 /// run reaches HALT, or that a published frame is drawn at all, is not said.
+#[tactic(auto, using(crate::proofs::Headline::draws_published))]
 pub fn draws_published()
     ensures { Always (λ R image. DrewPublished R) }
 {}
@@ -54,6 +59,7 @@ pub fn draws_published()
 /// In every legal log no picture is older than one before it: the publications that the runs which
 /// reach HALT show are in the order of their flips. One may be shown several times, and one may be
 /// passed over.
+#[tactic(auto, using(crate::proofs::Headline::never_older))]
 pub fn never_older()
     ensures { Always (λ R image. IsNoOlder) }
 {}
@@ -61,18 +67,21 @@ pub fn never_older()
 /// In every legal log, for each picture of what a run shows, of `n` words: the run fetches at most
 /// `2n` bytes, and its fetch number `2n` is the one that finishes it, with the picture's strokes.
 /// That there is a picture, `always_bounded` says. That this many fetches come is not said.
+#[tactic(auto, using(crate::proofs::Headline::always_in_time))]
 pub fn always_in_time()
     ensures { Always (λ R image. KeepsTime R) }
 {}
 
 /// In every legal log what a run shows has a bound, the number that `Frame::bound` gives, and the
 /// run fetches at most two bytes for each of its words. That the fetches come is not said.
+#[tactic(auto, using(crate::proofs::Headline::always_bounded))]
 pub fn always_bounded()
     ensures { Always (λ R image. WithinBound R) }
 {}
 
 /// In every legal log a run that reaches HALT, during which nothing was written and the RAM held a
 /// checked frame with the jump to it, drew that frame's picture.
+#[tactic(auto, using(crate::proofs::Untouched::draws_held))]
 pub fn draws_held()
     ensures { Always DrewHeld }
 {}
@@ -80,6 +89,7 @@ pub fn draws_held()
 /// After every legal log an open run that has fetched word zero is drawing a half, so `never_torn`
 /// speaks of each such run. It shows a draft that was accepted and published, and the half holds
 /// that draft's frame.
+#[tactic(auto, using(crate::proofs::Headline::draws_a_half))]
 pub fn draws_a_half()
     ensures { DrawsAHalf }
 {}
@@ -87,6 +97,7 @@ pub fn draws_a_half()
 /// Each line of every legal log keeps the headline: what the laws from `never_torn` to
 /// `draws_a_half` say, in one record. It is the clause `headline` of `run`, of `run_trace` and of
 /// the calls of a `World`, in `dvg_world`.
+#[tactic(auto, using(crate::proofs::Headline::headline))]
 pub fn headline()
     ensures { Always KeepsHeadline }
 {}
@@ -94,12 +105,14 @@ pub fn headline()
 /// In every legal log each word that a run fetches after word zero is one of the layout of the
 /// frame which it shows, in its place in the half being drawn, or a word of the ROM: so what is
 /// drawn is never torn, said without beams, steps or pictures.
+#[tactic(auto, using(crate::proofs::OneFrame::reads_one_frame))]
 pub fn reads_one_frame()
     ensures { Always (λ R image. ReadsOneFrame R) }
 {}
 
 /// In every legal log the strokes of each run that reaches HALT are in range: positions below
 /// 2,097,152, and intensities of 1 to 15.
+#[tactic(auto, using(crate::proofs::OneFrame::draws_in_range))]
 pub fn draws_in_range()
     ensures { Always (λ R image. DrewInRange) }
 {}
@@ -115,6 +128,7 @@ pub fn words_are_whole()
 /// In every legal log no action of the driver changes what the open run fetches next, but for the
 /// high byte of word zero, which is the flip. So the order in which the two bytes of a word are
 /// fetched matters for word zero alone.
+#[tactic(auto, using(crate::proofs::Words::next_stays))]
 pub fn next_word_stays()
     ensures { Always KeepsNext }
 {}

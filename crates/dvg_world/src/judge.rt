@@ -34,6 +34,7 @@ enum Drawing {
 
 impl Drawing {
     // Returns what a run draws whose first word is `word`, at `address`.
+    #[tactic(auto, using(crate::proofs::Judging::first_within))]
     fn from_first(address: u16, word: u16) -> Drawing
         ensures { FitsRun result (Some ((address, word) ∷ [])) }
     {

@@ -46,6 +46,7 @@ impl PairList {
     }
 
     // Returns the pair at the position `i`, which must be below the number of pairs.
+    #[tactic(auto, using(crate::proofs::Numbered::listed_at))]
     pub(crate) fn at(&self, i: usize) -> Pair
         requires { i < length self.now }
         ensures value { slice_get self.now i ≡ Some result }
