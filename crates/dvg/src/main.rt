@@ -12,11 +12,11 @@ use dvg_tool::{
     Done, Job, LogRule, MISUSE, MOST_TEXT_BYTES, TextFault, ToolFault, Watched, arguments_status,
     finish, job, perform, status,
 };
+use kept::Kept;
 use std::alloc::Global;
 use std::io::{BufWriter, IsTerminal, Read, Write};
 use std::process::ExitCode;
 use std::{env, io};
-use kept::Kept;
 use told::Told;
 
 /// The most bytes of output that are kept, to be written together.

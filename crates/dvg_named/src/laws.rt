@@ -4,6 +4,7 @@ ghost use Rattle.dvg_named.specs.SketchLaws.{NoFaultBeside, NoneLacksBoth, OneFa
 ghost use Rattle.dvg_named.specs.SketchLaws.{OneSketch, PlainDrafts, TokensAreParts};
 
 /// The tokens of a line are the parts of the line as a plain draft has it, where there is a token.
+#[tactic(auto, using(crate::proofs::PlainTokens::parts_of_plain))]
 pub fn tokens_are_parts()
     ensures { TokensAreParts }
 {}
@@ -24,16 +25,19 @@ pub fn no_fault_beside()
 {}
 
 /// A text has one fault at most.
+#[tactic(auto, using(crate::proofs::OneFault::one_fault))]
 pub fn one_fault()
     ensures { OneFault }
 {}
 
 /// No text lacks both a meaning and a fault.
+#[tactic(auto, using(crate::proofs::MeaningOrFault::none_lacks_both))]
 pub fn none_lacks_both()
     ensures { NoneLacksBoth }
 {}
 
 /// Each plain draft is a sketch of one frame without a name: of the same draft, and the same ROM.
+#[tactic(auto, using(crate::proofs::PlainDrafts::plain_drafts))]
 pub fn plain_drafts()
     ensures { PlainDrafts }
 {}
