@@ -89,8 +89,8 @@ extern "C" {
 #define DVG_MUST_USE
 #endif
 
-/* How the calls are defined that this header has the bodies of. Whoever compiles it is given them
- * `static`; each is in both libraries, too, for who binds names: plain/calls.c. */
+/* Who includes this header gets each call that has a body here as a function of their own. Each is
+ * a symbol of both libraries, too, for languages that bind calls by their names: plain/calls.c. */
 #ifndef DVG_INLINE
 #define DVG_INLINE static inline
 #endif

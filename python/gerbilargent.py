@@ -491,7 +491,7 @@ def library_path() -> Path:
 
 
 class _Answer(ctypes.Structure):
-    """An answer of a call of include/dvg.h: its dvg_answer."""
+    """What most calls of include/dvg.h answer: a dvg_answer."""
 
     _fields_ = [
         ("kind", ctypes.c_uint32), ("address", ctypes.c_uint16), ("value", ctypes.c_uint16),
@@ -536,7 +536,7 @@ def _load(path: Path) -> ctypes.CDLL:
 
 
 class _Request(enum.IntEnum):
-    """Requests, by their numbers in include/dvg.h."""
+    """The requests that are made by their numbers, which are those of include/dvg.h."""
 
     OFFER = 0
     REDRAW = 1
@@ -548,10 +548,6 @@ class _Request(enum.IntEnum):
     RESET_ALL = 7
     PUSH = 8
     CLEAR = 9
-    STAGE = 10
-    UNSTAGE = 11
-    OPEN_WORLD = 12
-    OPEN_DRIVER = 13
     OPEN_GENERATOR = 14
     WANTS = 16
     STROKES = 17
@@ -566,14 +562,7 @@ class _Request(enum.IntEnum):
     HOLDS = 26
     RETURN_TO = 27
     STATE = 28
-    RESUME = 29
     OPEN_WRAPPING = 30
-    BYTE = 31
-    DRIVER = 32
-    OPERATION = 33
-    RESUME_WRAPPING = 34
-    TELL_STATE = 35
-    RESUME_WORLD = 38
 
 
 #: What is asked of each stroke, as numbers.
@@ -597,7 +586,7 @@ _ERRORS = {
 #: What was saved, by the letter in its bytes.
 _GENERATOR, _WRAPPING, _WORLD = b"G", b"R", b"W"
 
-#: How many bytes a saved world has, but for strokes.
+#: How many bytes a saved world has at most, but for strokes.
 _SAVED_BYTES = 6208
 
 #: Why bytes aren't restored, by the numbers of include/dvg.h.

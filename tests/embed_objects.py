@@ -383,7 +383,6 @@ def test_failing():
 #: The requests whose answers are whole numbers, each bit of which says something.
 NUMBERS = {g._Request[name] for name in (
     "STROKES", "STROKE_FROM", "STROKE_TO", "STROKE_INTENSITY", "MOVE_TO", "BEAM", "STATE",
-    "DRIVER", "OPERATION",
 )}
 
 
