@@ -66,6 +66,11 @@ count() {
     fi
 }
 
+# The calls of dvg.h in this folder, a line each.
+calls_of() {
+    sed -n 's/^[A-Za-z].*[ *]\(dvg_[a-z_]*\)(.*/\1/p' "$1/dvg.h" | LC_ALL=C sort
+}
+
 finish() {
     [ "$skipped" -eq 0 ] || echo "$skipped skipped"
     echo "$passed passed, $failed failed"
