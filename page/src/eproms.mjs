@@ -48,8 +48,9 @@ export function isOfGame(bytes) {
 
 /* The socket of a board that a file names, or undefined. */
 function namedSocket({ name }, { sockets }) {
-  const names = new RegExp(`(?:^|[^a-z0-9])f?(${Object.keys(sockets).join('|')})(?:[^a-z0-9]|$)`);
-  return sockets[names.exec(name.toLowerCase())?.[1]];
+  const names = Object.keys(sockets).join('|');
+  const form = new RegExp(`(?:^|[^a-z0-9])f?(${names})(?:[^a-z0-9]|$)`);
+  return sockets[form.exec(name.toLowerCase())?.[1]];
 }
 
 /* Which board files are for. */
