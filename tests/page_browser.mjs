@@ -19,6 +19,7 @@ import { isDrawn } from './page_pixels.mjs';
 import { builtGame } from '../page/src/eproms.mjs';
 import { LESSONS } from '../page/src/lessons.mjs';
 import { strokesOfLines } from '../page/src/tears.mjs';
+import { grouped } from '../page/src/words.mjs';
 import { packedGames } from '../page/games.mjs';
 
 const [chromium, program, work] = process.argv.slice(2, 5),
@@ -1439,11 +1440,11 @@ async function testRows() {
   await tab.click('zoom-all');
   const { left, top: y, width, height } = await tab.middle('rows');
   await tab.clickAt(left + width / 2, y + height / 2);
-  expect('a click shows that moment', /^Event (29|30)[0-9][0-9] of 6000/,
+  expect('a click shows that moment', /^Event (2,9|3,0)[0-9][0-9] of 6,000/,
     await tab.text('moment-text'));
   await tab.click('zoom-in');
   await tab.click('zoom-in');
-  expect('zoomed in, it is still there', /^Event (29|30)[0-9][0-9] of 6000/,
+  expect('zoomed in, it is still there', /^Event (2,9|3,0)[0-9][0-9] of 6,000/,
     await tab.text('moment-text'));
   await tab.click('picture-back');
   expect('the picture before', /: done /, await tab.text('moment-text'));
@@ -1458,7 +1459,8 @@ async function testRows() {
       + Math.abs(line[k + 2] - b) < 200) return true;
     return false;
   })()`));
-  const kept = Number(/^Event ([0-9]+)/.exec(await tab.text('moment-text'))[1]) + 1;
+  const [, told] = /^Event ([0-9,]+)/.exec(await tab.text('moment-text'));
+  const kept = Number(told.replaceAll(',', '')) + 1;
   await tab.click('forget');
   expect('what comes later is forgotten', new RegExp(`^event ${kept} `), await tab.text('counts'));
   await tab.click('compare');
@@ -1466,7 +1468,8 @@ async function testRows() {
     await tab.text('compared'));
   await tab.click('once');
   expect('after more events the newest is shown',
-    new RegExp(`^Event ${kept + 19999} of ${kept + 20000}`), await tab.text('moment-text'));
+    new RegExp(`^Event ${grouped(kept + 19999)} of ${grouped(kept + 20000)}:`),
+    await tab.text('moment-text'));
   await set('count', 65536);
   await tab.click('once');
   expect('there are at most as many events as play takes', /^event 65536 /,
@@ -1921,6 +1924,18 @@ async function testWhatIf() {
     () => tab.text('run-moments'));
 }
 
+// Links lead to what may come of it: it goes on, it goes dark, twice, and it tears.
+async function testTries() {
+  await openGame(1);
+  for (const [k, outcome] of ['on', 'dark', 'dark', 'tears'].entries()) {
+    await tab.click(`#tries a:nth-child(${k + 1})`);
+    await tab.click(`[data-guess=${outcome}]`);
+    const words = outcome === 'on' ? 'goes on' : outcome.replace('dark', 'goes dark');
+    await expectSoon(`try ${k + 1}`, new RegExp(`^You said: it (${words})[.] It \\1[ :]`),
+      () => tab.text('what-text'));
+  }
+}
+
 // How many pixels of the rows over time of a game have these colours, above and below.
 const PIXELS_OF_ROWS = `(() => {
   const canvas = document.getElementById('past'), { width, height } = canvas;
@@ -2261,8 +2276,8 @@ const tests = {
   testHttp, testInView, testGrey, testCode, testTour, testMend,
     testWidths, testSmall, testEmbed, testColors, testMotion, testKeys, testRows, testOnAndOn,
     testEdges,
-  testGame, testTube, testHands, testWhatIf, testStrip, testSound, testGameDrops, testGameLink,
-    testGamePage, testGameWidths,
+  testGame, testTube, testHands, testWhatIf, testTries, testStrip, testSound, testGameDrops,
+    testGameLink, testGamePage, testGameWidths,
   testLive, testPlain, testLessonFrames, testEditorsStill, testReadAloud, testAccess, testStops,
   testMinutes, testBoards, testSpeed, testSlowed,
 };

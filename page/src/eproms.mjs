@@ -48,8 +48,9 @@ export function isOfGame(bytes) {
 
 /* The socket of a board that a file names, or undefined. */
 function namedSocket({ name }, { sockets }) {
-  const names = new RegExp(`(?:^|[^a-z0-9])f?(${Object.keys(sockets).join('|')})(?:[^a-z0-9]|$)`);
-  return sockets[names.exec(name.toLowerCase())?.[1]];
+  const names = Object.keys(sockets).join('|');
+  const form = new RegExp(`(?:^|[^a-z0-9])f?(${names})(?:[^a-z0-9]|$)`);
+  return sockets[form.exec(name.toLowerCase())?.[1]];
 }
 
 /* Which board files are for. */
@@ -79,9 +80,9 @@ function missingText(found, { sockets }) {
   return missing.map((name) => name.toUpperCase()).join(', ');
 }
 
-/* The game that files are of, each with a name and bytes: its program, its vector ROM, its labels,
- * and what is missing: sockets, as a text, and whether all of the vector ROM is. Null where there is
- * no program among them. */
+/* The game that files are of, each with a name and bytes: its program, its vector ROM, whether it
+ * has one, its labels, and the program's sockets that are missing, as a text. Null where there is no
+ * program among them. */
 export function gameOf(files) {
   const onPage = files.map(({ bytes }) => gameOfPage(bytes)).find((game) => game !== null);
   if (onPage !== undefined) return onPage;

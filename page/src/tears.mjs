@@ -89,8 +89,8 @@ export function besideOf(engine, board, { from, at }) {
 /* The tear in words. */
 export function tearText({ wrong, word: { event, read } }, picture) {
   const then = picture.torn ? 'there the tear begins' : 'so it shows, though the run is consistent';
-  return `Event ${event} wrote a byte while the generator drew`
-    + `${picture.early > 0 ? ' from that half' : ''}. Event ${read} read it: ${then}. `
+  const meanwhile = picture.early > 0 ? 'its half was drawn' : 'the generator drew';
+  return `Event ${event} wrote a byte while ${meanwhile}. Event ${read} read it: ${then}. `
     + `${redText(wrong, picture)}`;
 }
 
