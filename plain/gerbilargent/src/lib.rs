@@ -34,14 +34,9 @@
 //! let mut world = World::<Flat>::new(Global, rom, &ram).ok()?;
 //! while world.tick() != Entry::Acted(Action::Idle) {}
 //! assert_eq!(world.offer(&draft), Entry::Offered);
-//! while world.tick() != Entry::Acted(Action::Sent) {}
-//! world.strobe();
-//! loop {
-//!     if let Entry::Done(address, _, ()) = world.fetch().ok()? {
-//!         assert_eq!((address, world.picture().len()), (0x205, 1));
-//!         return Some(());
-//!     }
-//! }
+//! let ended = world.run_to_halt(1000).ok()?; // 1,000 ticks and fetches at most.
+//! assert_eq!((ended, world.picture().len()), (Entry::Done(0x205, 0xB000, ()), 1));
+//! # Some(())
 //! # }
 //! # draw().unwrap();
 //! ```
@@ -167,21 +162,18 @@ pub use dvg_driver::Driver;
 /// The generator alone, over a memory of yours.
 ///
 /// ```
-/// use gerbilargent::prelude::*;
+/// use gerbilargent::{Step, prelude::*};
 ///
 /// let memory = [0x90, 0xA1, 0x00, 0x02, 0x64, 0x90, 0x64, 0x74, 0x00, 0xB0];
 /// let mut generator = Generator::new(Global);
 /// generator.start();
-/// while let Some(word) = generator.wants() {
-///     let at = 2 * usize::from(word) + usize::from(generator.wants_high());
-///     generator.feed(memory.get(at).copied())?; // None where no memory answers.
-/// }
+/// // 1,000 words at most, as a run may have no end. None where no memory answers.
+/// let last = generator.run_to_halt(1000, |at| memory.get(usize::from(at)).copied())?;
+/// assert_eq!(last, Some(Step::Done));
 /// let drawn = Stroke { x0: 262144, y0: 204800, x1: 210944, y1: 256000, z: 7 };
 /// assert_eq!(generator.picture(), [drawn]);
 /// # Ok::<(), Box<dyn std::error::Error>>(())
 /// ```
-///
-/// Count the bytes of a memory that isn't yours: its run may have no end.
 ///
 #[doc(inline)]
 pub use dvg_gen::Generator;
