@@ -355,15 +355,15 @@ function testDeluxe() {
   return null;
 }
 
-// A program that keeps what it finds at these places, of which the first is in a bank that changed
-// its place.
+// A program that keeps what it finds in a bank after a write that changes none on this board, and
+// then at these places, of which the first is in a bank that changed its place.
 const FOUND_AT = [0x0200, 0x2800, 0x2801, 0x2802, 0x2803, 0x2C08, 0x2407, 0x6000, 0x4800, 0x57FF];
 function deluxeProgram() {
   const store = (byte, at) => [0xA9, byte, 0x8D, at & 0xFF, at >> 8];
+  const keep = (at) => [0xAD, at & 0xFF, at >> 8, 0x8D, (PUSHED + 1) & 0xFF, PUSHED >> 8];
   const code = [0xA2, 0xFF, 0x9A, ...store(3, 0x2C0F), ...store(0, 0x3C04), ...store(0xAA, 0x200),
-    ...store(0x55, 0x300), ...store(4, 0x3200), ...store(0x80, 0x3C04),
-    ...FOUND_AT.flatMap((at) => [0xAD, at & 0xFF, at >> 8, 0x8D, (PUSHED + 1) & 0xFF, PUSHED >> 8]),
-    0x8D, 0x00, 0x34];
+    ...store(0x55, 0x300), ...store(4, 0x3200), ...keep(0x200), ...store(0x80, 0x3C04),
+    ...FOUND_AT.flatMap(keep), 0x8D, 0x00, 0x34];
   const end = 0x6800 + code.length - 3, image = new Uint8Array(8192).fill(0x40);
   image.set([...code, 0x4C, end & 0xFF, end >> 8], 0x800);
   image.set([0xF0, 0x7F, 0x00, 0x68], 8192 - 6);
@@ -384,8 +384,8 @@ function testDeluxeBoard() {
   const image = deluxeProgram(), shapes = Uint8Array.from({ length: 4096 }, (_, k) => k % 251);
   const board = new Keeping(engine, image, shapes);
   board.run(HERTZ / 10);
-  expect('the banks, and the ROM', [0x55, 0x40, 0x00, shapes[4095]],
-    [board.kept[1], ...board.kept.slice(-3)]);
+  expect('the banks, and the ROM', [0xAA, 0xAA, 0x55, 0x40, 0x00, shapes[4095]],
+    [...board.kept.slice(0, 3), ...board.kept.slice(-3)]);
   board.free();
   if (!hasEmulator) return console.log('skipped: Deluxe beside the emulator: it isn\'t here');
   expect('what is found in the emulator', foundOnDeluxe(image, shapes), board.kept);

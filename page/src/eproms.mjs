@@ -81,8 +81,8 @@ function missingText(found, { sockets }) {
 }
 
 /* The game that files are of, each with a name and bytes: its program, its vector ROM, whether it
- * has one, its labels, and the program's sockets that are missing, as a text. Null where no program
- * is among them. */
+ * has one, its labels, and the program's sockets that are missing, as a text. Null where there is
+ * no program among them. */
 export function gameOf(files) {
   const onPage = files.map(({ bytes }) => gameOfPage(bytes)).find((game) => game !== null);
   if (onPage !== undefined) return onPage;
