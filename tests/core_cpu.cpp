@@ -11,8 +11,8 @@
  * are stored after each, and most others begin with what the one before left, amid what sets D and
  * clears it, pushes and pulls flags, compares and counts. With `program` it is PROGRAM, 6,144 bytes
  * for the board, up to its write of 3000 of that number, from 1. RAMS has 2,048 bytes for each:
- * what 4000 to 47FF are then. No NMI comes, and the self-test switch is closed. Prints what was played,
- * or the first difference (status 1). */
+ * what 4000 to 47FF are then. No NMI comes, and the self-test switch is closed. Prints what was
+ * played, or the first difference (status 1). */
 #include "Vdvg_cpu.h"
 #include <string>
 #include "core_bench.h"
