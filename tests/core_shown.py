@@ -23,6 +23,7 @@ import sys
 LEFT, BOTTOM, WIDE, HIGH = -10.2, 117, 1044, 788    # what a snapshot shows, as shot.py has it
 COLUMN, ROW, COLUMNS, ROWS = 64, 48, 512, 384       # where a picture has the units from 0, 128 on
 LIT = {"snapshot": 40, "picture": 32}               # lines have soft edges, and what moves a trail
+FAINT = 24      # is light of PICTURE where SNAPSHOT has some: of 53 at a rock's corner 26 were left
 FARTHEST, MARGIN = 4, 6
 NEAR = {"snapshot": 0.7, "picture": 0.93}
 
@@ -45,9 +46,9 @@ def lit_of_snapshot(rows):
             for y, row in enumerate(rows) for x, light in enumerate(row) if light > LIT["snapshot"]]
 
 
-def lit_of_picture(rows):
+def lit_of_picture(rows, above=LIT["picture"]):
     return [(2 * (x - COLUMN) + 1, 895 - 2 * (y - ROW))
-            for y, row in enumerate(rows) for x, light in enumerate(row) if light > LIT["picture"]]
+            for y, row in enumerate(rows) for x, light in enumerate(row) if light > above]
 
 
 def distances(points, others):
@@ -65,7 +66,7 @@ def distances(points, others):
 def compare(snapshot, picture, others=()):
     """What is said of both, and whether they agree."""
     lit = {"snapshot": lit_of_snapshot(snapshot), "picture": lit_of_picture(picture)}
-    near_light = {"snapshot": lit["picture"],
+    near_light = {"snapshot": lit_of_picture(picture, FAINT),
                   "picture": sum(map(lit_of_snapshot, others), lit["snapshot"])}
     said, agrees = [], True
     for name, other in (("snapshot", "picture"), ("picture", "snapshot")):
