@@ -4,9 +4,10 @@
 //! The page owes what C owes: a device comes from `dvg_new`, and is used by one call at a time, and
 //! no more once `dvg_free` got it.
 use dvg_device::Device;
-use dvg_explain::{Explained, explain_line};
+use dvg_explain::{Explained, UNENDED, UnreadLog, explain_line};
 use dvg_tool::{
-    Done, Job, LayForm, LogRule, PictureForm, Show, ToolFault, Watched, finish, perform, status,
+    Done, Job, LayForm, LogRule, PictureForm, Show, TextFault, ToolFault, Watched, finish, perform,
+    status,
 };
 use plain_std::alloc::Global;
 use std::cell::RefCell;
@@ -124,21 +125,56 @@ fn reads_sketch(job: Job) -> bool {
     )
 }
 
-/// What standard error gets of a job over this input, whose sketch has a fault of its own kind.
-fn said(answer: &Result<Done<Global>, ToolFault>, sketch: bool, input: &[u8]) -> Vec<u8> {
-    let text = match answer {
-        Err(ToolFault::Text(fault)) if sketch => {
-            let small = input.to_ascii_lowercase();
-            match explain_line(*fault, input, &small) {
-                Some(Explained { line, expected }) => {
-                    format!("dvg: {fault}: {line}\ndvg: expected {expected}\n")
-                }
-                None => format!("dvg: {fault}\n"),
-            }
+/// The most bytes of a line of a log. One with more is at fault before its end was seen.
+const MOST_LINE_BYTES: usize = 64;
+
+/// What is known of the lines of a log before one that isn't read, by this rule.
+fn known_before(rule: LogRule) -> Option<&'static str> {
+    match rule {
+        LogRule::Halves => Some("no line before it tears a picture"),
+        LogRule::Moments => Some("no run that ended before it is torn"),
+        LogRule::AllMoments => None,
+    }
+}
+
+/// What standard error gets of a log, the input, whose line of this number isn't read.
+fn said_of_log(input: &[u8], number: usize, rule: LogRule, base: Option<u16>) -> String {
+    let fault = TextFault::Syntax(number);
+    let Some(unread) = UnreadLog::of(input, number, base) else {
+        return format!("dvg: {fault}\n");
+    };
+    let line = unread.line();
+    let mut text = format!("dvg: {fault}: {line}\ndvg: {unread}\n");
+    if unread.is_unended() && line.bytes.len() <= MOST_LINE_BYTES {
+        text += &format!("dvg: {UNENDED}\n");
+    }
+    if let (Some(known), before @ 1..) = (known_before(rule), number - 1) {
+        text += &format!("dvg: {known}; for the counts, judge only head -n {before}\n");
+    }
+    text
+}
+
+/// What standard error gets of a sketch, the input, that has this fault.
+fn said_of_sketch(input: &[u8], fault: TextFault) -> String {
+    let small = input.to_ascii_lowercase();
+    match explain_line(fault, input, &small) {
+        Some(Explained { line, expected }) => {
+            format!("dvg: {fault}: {line}\ndvg: expected {expected}\n")
         }
-        Err(fault) => format!("dvg: {fault}\n"),
-        Ok(Done::Refused(refusal)) => format!("dvg: {refusal}\n"),
-        Ok(_) => String::new(),
+        None => format!("dvg: {fault}\n"),
+    }
+}
+
+/// What standard error gets of a job over this input.
+fn said(answer: &Result<Done<Global>, ToolFault>, job: Job, input: &[u8]) -> Vec<u8> {
+    let text = match (answer, job) {
+        (Err(ToolFault::Text(TextFault::Syntax(number))), Job::Torn { rule, base }) => {
+            said_of_log(input, *number, rule, base)
+        }
+        (Err(ToolFault::Text(fault)), _) if reads_sketch(job) => said_of_sketch(input, *fault),
+        (Err(fault), _) => format!("dvg: {fault}\n"),
+        (Ok(Done::Refused(refusal)), _) => format!("dvg: {refusal}\n"),
+        (Ok(_), _) => String::new(),
     };
     text.into_bytes()
 }
@@ -156,7 +192,7 @@ pub extern "C" fn dvg_run(number: u32) -> u32 {
         let mut writer = Watched::new(&mut texts.output);
         let answer = perform(Global, job, &mut reader, &mut writer);
         let answer = finish(answer, &mut writer);
-        texts.error = said(&answer, reads_sketch(job), &texts.input);
+        texts.error = said(&answer, job, &texts.input);
         u32::from(status(&answer))
     })
 }
