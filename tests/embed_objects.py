@@ -158,6 +158,8 @@ CALLS = {
         "reset_all": (), "strokes": None, "stroke_table": None, "__enter__": (),
     },
 }
+#: The calls that let a run go on for so many words or steps.
+COUNTED = {"draw", "run_to_halt"}
 #: What needs no open object.
 ALWAYS = {"close", "wraps", "events"}
 
@@ -839,7 +841,10 @@ class Storm:
         words = CALLS[kind].get(name, ())
         if words is None or chance.random() < 0.5:
             return words
-        return tuple(self.value(chance) for _ in range(chance.randrange(4)))
+        words = tuple(self.value(chance) for _ in range(chance.randrange(4)))
+        if name in COUNTED:  # a run that has no end would keep a thread for as many words
+            words = tuple(min(it, 9999) if type(it) is int else it for it in words)
+        return words
 
     def make(self, chance):
         kind = chance.choice(CLASSES)
