@@ -600,7 +600,7 @@ const REFUSED_FRAMES = ['map 2048\n', 'vctr 9 -100 100 7\nhalt\n',
 function testAdvice() {
   const seen = new Set();
   for (const text of REFUSED_FRAMES) {
-    const [, , line, ...sentences] = runProgram(['explain'], text).trimEnd().split('\n');
+    const [line, ...sentences] = runProgram(['explain'], text).trimEnd().split('\n').slice(0, -2);
     const { jump, said } = saidOf(text), what = JSON.stringify(text.slice(0, 60));
     expect(`what is said of ${what}`, sentences.join('\n'), said);
     expect(`the jump that leads back in ${what}`, said.startsWith('this jump')

@@ -1,8 +1,8 @@
 """What the prover refused, as tests/refused keeps it for tests/wrong_bodies: a part for each crate.
 
 A part begins with `## CRATE`. Its next line is a checksum of all that decides what is said of the
-crate's texts: the texts, the crate, the crates that it stands on, the logic of the kit, and the
-suite. The second has the seconds of processors that they took, and then comes a line of each text.
+crate's texts: the texts, the crate and the crates that it stands on, but for lines that are
+comments, the logic of the kit, and the suite. The second has the seconds of processors that they took, and then comes a line of each text.
 It proves nothing: it spares to try again what was tried of the same sources. So in each commit a
 quarter of the crates is tried all the same, another one each time. Each run leaves what it was told
 in build/refused, a file for each crate, from where it is taken."""
@@ -21,6 +21,8 @@ EDITS = ("wrong-bodies.edits", "wrong-laws.edits")
 SUITE = ("tests/wrong_bodies", "tests/wrong_laws.py", "tests/rooms.py", "tests/copies.py",
          "tools/sources.py")
 SHARE = 4
+# A line of a source or of a definition that is a comment.
+COMMENT = re.compile(rb"^[ \t]*(?://|--).*\n", re.M)
 
 
 @functools.cache
@@ -40,6 +42,12 @@ def files_for(name, lines):
     yield from (ROOT / it for it in SUITE)
 
 
+def what_decides(file):
+    """What is in a file, without lines that are comments where it is Rattle's."""
+    text = file.read_bytes()
+    return COMMENT.sub(b"", text) if file.suffix in (".rt", ".antt") else text
+
+
 @functools.cache
 def checksum(name):
     """The checksum of all that decides what is said of a crate's texts, as it was when this was
@@ -49,8 +57,9 @@ def checksum(name):
     logic = printed("rt", "version").partition("logic ")[2].strip()
     digest = hashlib.sha256(f"{logic}\n{uses}\n".encode())
     for file in files_for(name, lines):
-        digest.update(f"{file.relative_to(ROOT)} {file.stat().st_size}\n".encode())
-        digest.update(file.read_bytes())
+        text = what_decides(file)
+        digest.update(f"{file.relative_to(ROOT)} {len(text)}\n".encode())
+        digest.update(text)
     return digest.hexdigest()
 
 

@@ -6,6 +6,7 @@ use Rattle.dvg_frame.specs.Faults.{Refuses}
 use Rattle.dvg_blame.specs.Refusals.{IsFirst, IsGood}
 use Rattle.dvg_log.specs.Log.{Line}
 use Rattle.dvg_logs.specs.LogLines.{Tells}
+use Rattle.dvg_logs.specs.LogTexts.{AnswersTorn}
 use Rattle.dvg_named.specs.ReadSketches.{IsSketchOf, lent_of}
 use Rattle.dvg_named.specs.SketchFaults.{HasSketchFault}
 use Rattle.dvg_named.specs.declared.meaning.NamedFrame.{NamedFrame}
@@ -82,3 +83,4 @@ pub record AreAnswers {A : Type 0} (text : List ℕ) (answers : Answers A) : Typ
   pub trace : AnswersTrace text answers.trace
   pub sketch : AnswersSketch text answers.sketch answers.refused
   pub log : AnswersLog text answers.log
+  pub judged : AnswersTorn None text answers.judged

@@ -1,9 +1,10 @@
 //! The engine `explain`.
-ghost use Rattle.std.specs.Prelude.{◌≡◌, ◌%◌, ◌++◌, ◌<◌, ℕ, List, IfOk, IsFalse, length};
+ghost use Rattle.std.specs.Prelude.{◌≡◌, ◌%◌, ◌++◌, ◌<◌, ℕ, List, IfOk, IsFalse, None, length};
 ghost use Rattle.dvg_code.specs.Words.{words_of};
 ghost use Rattle.dvg_io.specs.Faults.{ComesBeforeText};
 ghost use Rattle.dvg_io.specs.Serving.{AreFresh, Serves};
 ghost use Rattle.dvg_io.specs.Watching.{Writes};
+ghost use Rattle.dvg_logs.specs.LogTexts.{AnswersTorn};
 ghost use Rattle.dvg_read.specs.FirstFaults.{IsShort};
 ghost use Rattle.dvg_explain.specs.Answers.{AreAnswers};
 ghost use Rattle.dvg_explain.specs.Findings.{Explains, HasNoFault, IsCutAt, IsFound, IsFoundIn};
@@ -18,7 +19,8 @@ use crate::telling::{Examined, tell_long};
 use crate::text::Text;
 use dvg_code::OutOfMemory;
 use dvg_io::{Engine, StreamFailed, ToolFault, Watched, serve, write_lines, write_whole};
-use dvg_read::{MOST_TEXT_BYTES, Unread};
+use dvg_logs::{LogFinding, LogVerdict};
+use dvg_read::{MOST_TEXT_BYTES, TextFault, Unread};
 use std::alloc::Allocator;
 use std::io::{Read, Write};
 
@@ -34,8 +36,18 @@ fn cut_of<A: Allocator>(alloc: A, text: &[u8], kind: Kind) -> Result<Option<usiz
     }
 }
 
-// Whether nothing is wrong with an input of this `kind`, to which the readers of texts answered
-// `answers`. Words may be `cut`.
+// Whether nothing is torn in a log, by what `torn` says of it, `judged`.
+fn is_untorn(judged: Result<LogVerdict, TextFault>) -> bool
+    ensures { (text : List ℕ) → AnswersTorn None text judged → IsVerdictAs text Kind.Log result }
+{
+    match judged {
+        Ok(verdict) => verdict.finding == LogFinding::NotTorn,
+        Err(_) => false,
+    }
+}
+
+// Whether the commands take an input of this `kind`, and say yes, where the readers of texts
+// answered `answers`. Words may be `cut`.
 fn is_good<A: Allocator>(answers: &Answers<A>, kind: Kind, cut: Option<usize>) -> bool
     ensures { (text : List ℕ) → AreAnswers text answers.now
         → (kind ≡ Kind.Words → IsCutAt (words_of text) cut) → IsVerdictAs text kind result }
@@ -47,7 +59,7 @@ fn is_good<A: Allocator>(answers: &Answers<A>, kind: Kind, cut: Option<usize>) -
             && answers.refused.is_none(),
         Kind::Sketch => answers.sketch.is_none() && answers.refused.is_none(),
         Kind::Trace => answers.trace.is_none(),
-        Kind::Log => answers.log.is_none(),
+        Kind::Log => is_untorn(answers.judged),
         Kind::Dump => true,
         Kind::Other => false,
     }
@@ -121,16 +133,16 @@ fn find_in<A: Allocator + Copy>(alloc: A, text: &[u8]) -> Result<Finding<A>, Out
     find_short(alloc, text)
 }
 
-// Writes `head`, a line, and the lines of `text` to `writer`, each by itself.
+// Writes the lines of `text` and then `last`, a line, to `writer`, each by itself.
 fn write_told<W: Write>(
-    head: &[u8],
     text: &[u8],
+    last: &[u8],
     writer: &mut Watched<W>,
 ) -> Result<(), StreamFailed>
-    ensures { Writes W.contents (head.now ++ text.now) result writer.old writer.new }
+    ensures { Writes W.contents (text.now ++ last.now) result writer.old writer.new }
 {
-    write_whole(writer, head)?;
-    write_lines(writer, text)
+    write_lines(writer, text)?;
+    write_whole(writer, last)
 }
 
 // The engine.
@@ -162,13 +174,13 @@ impl<A: Allocator + Copy> Engine<A> for ExplainEngine {
         finding: &Finding<A>,
         writer: &mut Watched<W>,
     ) -> Result<(), StreamFailed> {
-        write_told(finding.head(), finding.text.as_slice(), writer)
+        write_told(finding.text.as_slice(), finding.last(), writer)
     }
 }
 
-/// Reads an input of any kind from `reader`. Writes to `writer` for which kind it is taken, and
-/// then what is wrong with it first, or which commands take it (the texts are this project's own
-/// choice). Returns what was found.
+/// Reads an input of any kind from `reader`. Writes to `writer` what is wrong with it first, or
+/// which commands take it, and in the last line for which kind it is taken (the texts are this
+/// project's own choice). Returns what was found.
 ///
 /// - `Reader`, `Writer`: that stream failed. After `Writer` a beginning of the text went out.
 /// - `Memory`: an allocation failed.

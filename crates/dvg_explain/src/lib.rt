@@ -6,6 +6,7 @@
 //! nearest kinds a text is that no reader takes whole: both can be made better without a proof.
 #![tactic(auto)]
 
+mod alike;
 mod asking;
 mod choosing;
 mod engine;
@@ -17,8 +18,11 @@ mod hints;
 mod kind;
 mod lines;
 mod looks;
+mod mistakes;
+mod numbers;
 mod places;
 mod raw;
+mod remarks;
 mod sketch_line;
 mod telling;
 mod text;

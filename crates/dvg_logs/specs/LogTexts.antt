@@ -1,5 +1,5 @@
 -- What is said of the text of a log.
-use Rattle.std.specs.Prelude.{◌≡◌, ◌+◌, ◌-◌, ◌^◌, ◌<◌, ℕ, List, ◌∷◌, ◌++◌, length, Option, Some, None}
+use Rattle.std.specs.Prelude.{◌≡◌, ◌+◌, ◌-◌, ◌^◌, ◌<◌, ℕ, List, ◌∷◌, ◌++◌, length, Option, Some, None, Result, Ok, Err}
 use Rattle.dvg_driver.specs.declared.action.Action.TheVariants.{Wrote}
 use Rattle.dvg_log.specs.declared.entry.Entry.TheVariants.{Acted}
 use Rattle.dvg_log.specs.declared.event.Event.TheVariants.{Tick}
@@ -99,3 +99,8 @@ JudgesHalves base text verdict decided =
 -- the same, wherever it is decided
 abbrev pub JudgesLog : (base : Option ℕ) → (text : List ℕ) → LogVerdict → Type 0
 JudgesLog base text verdict = (decided : Option ℕ) × JudgesHalves base text verdict decided
+
+-- `torn` says this of a text, or the text has this fault
+abbrev pub AnswersTorn : (base : Option ℕ) → (text : List ℕ) → Result LogVerdict TextFault → Type 0
+AnswersTorn base text (Ok verdict) = JudgesLog base text verdict
+AnswersTorn base text (Err fault) = HasLogFault base text fault

@@ -1,15 +1,23 @@
 //! The engine `torn`.
-ghost use Rattle.std.specs.Prelude.{◌≡◌, ◌↔◌, ◌≤◌, IfErr, IfSome, IsErrOf, OnErr, OnOk};
+ghost use Rattle.std.specs.Prelude.{◌≡◌, ◌↔◌, ◌≤◌, ℕ, List, Option};
+ghost use Rattle.std.specs.Prelude.{IfErr, IfSome, IsErrOf, OnErr, OnOk};
 ghost use Rattle.std.specs.Io.KnownBytes.{Appends};
 ghost use Rattle.dvg_io.specs.Faults.{StopsBeforeWriting};
 ghost use Rattle.dvg_io.specs.Watching.{BeginsToWrite, CountsErrors, failures_of, stream_of};
+ghost use Rattle.dvg_log.specs.Log.{Throughout};
+ghost use Rattle.dvg_log.specs.Torn.{IsUntorn};
 ghost use Rattle.dvg_print.specs.LogVerdicts.{log_verdict_text};
+ghost use Rattle.dvg_read.specs.Texts.{lines};
+ghost use Rattle.dvg_logs.specs.LogReading.{StopsAt};
+ghost use Rattle.dvg_logs.specs.LogTexts.{AnswersTorn, FindsTorn};
 ghost use Rattle.dvg_logs.specs.Tears.{Takes, Tears};
 
 use crate::half_lines::HalfLines;
 use crate::judging::judge_text;
+use crate::log_reading::{LogReading, LogStop};
 use dvg_io::{StreamFailed, ToolFault, Watched, write_lines};
 use dvg_print::{Line, LogVerdict};
+use dvg_read::TextFault;
 use std::io::{Read, Write};
 
 // Writes `verdict`, what is said of a log, to `writer`.
@@ -23,6 +31,35 @@ fn write_verdict<W: Write>(writer: &mut Watched<W>, verdict: LogVerdict) -> Resu
     let mut line = Line::new();
     line.become_log_verdict(verdict);
     write_lines(writer, line.as_bytes())
+}
+
+// Returns what is said of a log whose reading stops by `stop`.
+fn said(stop: LogStop<LogVerdict>) -> Result<LogVerdict, TextFault>
+    ensures { (base : Option ℕ) (text : List ℕ)
+        → StopsAt base (Throughout IsUntorn) FindsTorn stop (lines text)
+        → AnswersTorn base text result }
+{
+    match stop {
+        LogStop::Found(_, verdict) => Ok(verdict),
+        LogStop::Syntax(line) => Err(TextFault::Syntax(line)),
+        LogStop::TooLong => Err(TextFault::TooLong),
+    }
+}
+
+/// Returns what `torn` says of `text`, the whole text of a log, or its fault of the text. With a
+/// `base`, lines `wrote` have addresses of the processor.
+pub fn judge_log(text: &[u8], base: Option<u16>) -> Result<LogVerdict, TextFault>
+    ensures { AnswersTorn base text.now result }
+{
+    let mut reading = LogReading::new(HalfLines::new(), base);
+    match reading.take_piece(text) {
+        Ok(()) => {}
+        Err(stopped) => return said(stopped.stop),
+    }
+    match reading.finish() {
+        Ok(()) => Ok(reading.at_end()),
+        Err(stop) => said(stop),
+    }
 }
 
 /// Reads the text of a log from `reader`, of any length, up to the first line that is torn or at

@@ -9,6 +9,7 @@ use alloc::string::String;
 use alloc::vec::Vec;
 use core::fmt;
 use plain_std::alloc::{AllocError, AllocFailed, Box, Global};
+use strsim::jaro;
 
 /// What an error is about.
 pub mod error {
@@ -434,7 +435,7 @@ fn similar<'n>(
 ) -> Result<Vec<&'n str>, AllocError> {
     let mut like: Vec<(f64, &str)> = Vec::new();
     for name in names {
-        let how = jaro(argument, name)?;
+        let how = jaro(Global, argument, name)?;
         if how > 0.7 {
             let place = like.partition_point(|(other, _)| *other <= how);
             add(&mut like, (how, name))?;
@@ -442,40 +443,6 @@ fn similar<'n>(
         }
     }
     gathered(like.into_iter().map(|(_, name)| name))
-}
-
-/// How alike two texts are, from 0 to 1, by Jaro.
-fn jaro(a: &str, b: &str) -> Result<f64, AllocError> {
-    let (a, b) = (gathered(a.chars())?, gathered(b.chars())?);
-    if a.is_empty() || b.is_empty() {
-        return Ok(f64::from(u8::from(a.len() == b.len())));
-    }
-    let range = (a.len().max(b.len()) / 2).saturating_sub(1);
-    let mut taken = gathered(b.iter().map(|_| false))?;
-    let mut matches = Vec::new();
-    for (i, c) in a.iter().enumerate() {
-        let (from, to) = (i.saturating_sub(range), (i + range + 1).min(b.len()));
-        if let Some(j) = (from..to).find(|j| !taken[*j] && b[*j] == *c) {
-            taken[j] = true;
-            add(&mut matches, *c)?;
-        }
-    }
-    if matches.is_empty() {
-        return Ok(0.0);
-    }
-    let others = b
-        .iter()
-        .zip(&taken)
-        .filter(|(_, taken)| **taken)
-        .map(|(c, _)| *c);
-    let moved = matches
-        .iter()
-        .zip(others)
-        .filter(|(a, b)| **a != *b)
-        .count() as f64
-        / 2.0;
-    let m = matches.len() as f64;
-    Ok((m / a.len() as f64 + m / b.len() as f64 + (m - moved) / m) / 3.0)
 }
 
 /// What arguments matched.
