@@ -95,6 +95,8 @@ pub(crate) enum WrongNumber<'a> {
     Hexadecimal(&'a [u8]),
     /// This word isn't whole.
     Broken(&'a [u8]),
+    /// A plus, or zeros, begin this word.
+    Padded(&'a [u8]),
     /// The number of this name is less than the least.
     Below(&'static str, &'a [u8], i64),
     /// It is more than the most.
@@ -138,11 +140,17 @@ fn is_broken(word: &[u8]) -> bool {
             .all(|byte| matches!(*byte, b'0'..=b'9' | b'.' | b'-'))
 }
 
-// Returns the number that `word` is, if it is one without a sign `+`, and not too long.
-fn value_of(word: &[u8]) -> Option<i64> {
-    if word.starts_with(b"+") {
-        return None;
+// Whether `word` begins with a plus, or with a zero that isn't all of it, perhaps after a minus.
+fn is_padded(word: &[u8]) -> bool {
+    match word {
+        [b'0'] => false,
+        [b'+' | b'0', ..] | [b'-', b'0', ..] => true,
+        _ => false,
     }
+}
+
+// Returns the number that `word` is, if it is one, and not too long.
+fn value_of(word: &[u8]) -> Option<i64> {
     match from_utf8(word) {
         Ok(text) => text.parse::<i64>().ok(),
         Err(_) => None,
@@ -165,6 +173,7 @@ impl Number {
             return Some(WrongNumber::Broken(word));
         }
         match value_of(word)? {
+            _ if is_padded(word) => Some(WrongNumber::Padded(word)),
             value if value < self.least => Some(WrongNumber::Below(self.name, word, self.least)),
             value if value > self.most => Some(WrongNumber::Above(self.name, word, self.most)),
             _ => None,
@@ -204,6 +213,10 @@ impl fmt::Display for WrongNumber<'_> {
                 write!(f, "{}: numbers are decimal here", Shown { bytes })
             }
             WrongNumber::Broken(bytes) => write!(f, "{}: numbers are whole", Shown { bytes }),
+            WrongNumber::Padded(bytes) => {
+                let shown = Shown { bytes };
+                write!(f, "{shown}: numbers begin with no + and no 0")
+            }
             WrongNumber::Below(name, bytes, least) => {
                 let shown = Shown { bytes };
                 write!(f, "{name} is {shown}, and {least} is the least")
