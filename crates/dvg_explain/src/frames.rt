@@ -111,10 +111,11 @@ pub(crate) struct SketchAnswer<A: Allocator> {
     pub remark: Option<Remark>,
 }
 
-// Returns what is answered of `sketch`, which was read: the first frame that the check refuses, if
-// it refuses one. Returns `OutOfMemory` where an allocation fails.
+// Returns what is answered of `sketch`, which was read of `small`: the first frame that the check
+// refuses, if it refuses one. Returns `OutOfMemory` where an allocation fails.
 fn check_read<A: Allocator + Copy>(
     alloc: A,
+    small: &[u8],
     sketch: &Sketch<'_, A>,
 ) -> Result<SketchAnswer<A>, OutOfMemory>
     requires inside { AreInside sketch.now }
@@ -127,12 +128,11 @@ fn check_read<A: Allocator + Copy>(
     let Ok(rom) = Rom::new(alloc, sketch.rom.as_slice()) else {
         return Err(OutOfMemory);
     };
-    let (bytes, names) = (sketch.rom.as_slice(), sketch.names.as_slice());
-    match check_all(alloc, &rom, names, frames.as_slice()) {
+    match check_all(alloc, &rom, sketch.names.as_slice(), frames.as_slice()) {
         Ok(()) => Ok(SketchAnswer {
             fault: None,
             refused: None,
-            remark: remark_on(alloc, bytes, names, frames.as_slice())?,
+            remark: remark_on(alloc, small, frames.as_slice())?,
         }),
         Err(Unlaid::Memory) => Err(OutOfMemory),
         Err(Unlaid::Refused(refusal)) => {
@@ -157,7 +157,7 @@ pub(crate) fn ask_sketch<A: Allocator + Copy>(
         → AnswersSketch text answer.fault answer.refused) }
 {
     match read_sketch(alloc, small) {
-        Ok(sketch) => check_read(alloc, &sketch),
+        Ok(sketch) => check_read(alloc, small, &sketch),
         Err(Unread::Text(fault)) => Ok(SketchAnswer {
             fault: Some(fault),
             refused: None,

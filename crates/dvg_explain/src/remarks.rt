@@ -1,19 +1,24 @@
 //! What is odd about frames that the check accepts. This is tested: nothing is proved of it but that
 //! it can't panic, and comes to an end.
-ghost use Rattle.std.specs.Prelude.{All};
-ghost use Rattle.dvg_blame.specs.Refusals.{IsLent};
-
-use dvg_blame::Unlaid;
 use dvg_code::OutOfMemory;
 use dvg_frame::{MAX_OPS, Op, OpKind};
 use dvg_gen::Stroke;
-use dvg_lay::draw_frames;
-use dvg_named::{NamedFrame, RomName};
+use dvg_io::{ToolFault, Watched};
+use dvg_job::Show;
+use dvg_lay::draw_sketch;
+use dvg_named::NamedFrame;
 use std::alloc::Allocator;
 use std::fmt;
+use std::io::sink;
 
 /// The first place along an axis that isn't on the screen, in 1/512 of a unit: 1,024 units.
 const SCREEN_END: u32 = 1024 * 512;
+
+/// How pictures are shown that nobody sees.
+const SHOW: Show = Show {
+    percent: 100,
+    rate: 1,
+};
 
 /// What is odd about a frame.
 #[derive(Clone, Copy)]
@@ -134,20 +139,18 @@ fn remark_on_frame(frame: &NamedFrame, strokes: &[Stroke]) -> Option<Remark> {
     })
 }
 
-/// Returns what is odd about the first of `frames` over the ROM of `bytes` that is odd. The check
-/// accepts them. `names` are the names of the ROM. Returns `OutOfMemory` where an allocation fails.
+/// Returns what is odd about the first of `frames` that is odd. They are those of `text`, a sketch
+/// in small letters, and the check accepts them. Returns `OutOfMemory` where an allocation fails.
 pub(crate) fn remark_on<A: Allocator + Copy>(
     alloc: A,
-    bytes: &[u8],
-    names: &[RomName],
+    text: &[u8],
     frames: &[NamedFrame],
-) -> Result<Option<Remark>, OutOfMemory>
-    requires { All IsLent frames.now }
-{
-    let pictures = match draw_frames(alloc, bytes, names, frames) {
-        Ok(pictures) => pictures,
-        Err(Unlaid::Memory) => return Err(OutOfMemory),
-        Err(Unlaid::Refused(_)) => return Ok(None),
+) -> Result<Option<Remark>, OutOfMemory> {
+    let (mut reader, mut writer) = (Watched::new(text), Watched::new(sink()));
+    let pictures = match draw_sketch(alloc, &mut reader, &mut writer, SHOW) {
+        Ok(Ok(pictures)) => pictures,
+        Err(ToolFault::Memory) => return Err(OutOfMemory),
+        Ok(Err(_)) | Err(_) => return Ok(None),
     };
     for (frame, strokes) in frames.iter().zip(pictures.iter()) {
         if let Some(remark) = remark_on_frame(frame, strokes.as_slice()) {

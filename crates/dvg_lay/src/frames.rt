@@ -51,7 +51,7 @@ fn draw_frame<A: Allocator + Copy>(
 /// - `Refused`: the check refuses a frame, or its picture has more than 65,536 words (this
 ///   project's own choice). The first such frame is described.
 /// - `Memory`: an allocation failed.
-pub fn draw_frames<A: Allocator + Copy>(
+pub(crate) fn draw_frames<A: Allocator + Copy>(
     alloc: A,
     bytes: &[u8],
     names: &[RomName],

@@ -29,7 +29,6 @@ mod walk;
 pub use drawing::{SketchPictures, draw_sketch};
 pub use engine::lay_sketch;
 pub use form::Laid;
-pub use frames::draw_frames;
 pub use laying::lay_tables;
 pub use time::PictureTime;
 pub use verdicts::{FrameVerdict, Said, check_sketch};
