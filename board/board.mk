@@ -106,8 +106,8 @@ build/driver.proved: build/driver.o $(BOARD)driver.cfg
 	@ld65 -C $(BOARD)driver.cfg -o $@ build/driver.o
 
 # What looks whether a program keeps to the premises of the proof, where a C compiler is here.
-build/premises: $(wildcard $(BOARD)../tests/board_*.[ch])
-	@! command -v $(CC) >/dev/null || $(CC) -O2 -o $@ $(BOARD)../tests/board_premises.c
+build/premises: $(wildcard $(BOARD)../tests/parts/board/*.[ch])
+	@! command -v $(CC) >/dev/null || $(CC) -O2 -o $@ $(BOARD)../tests/parts/board/premises.c
 
 build/sketch: $(SKETCH) $(BOARD)outline.awk $(BOARD)warn.awk build/options
 	@: >build/sketch.from

@@ -27,7 +27,7 @@ TESTS = re.compile(r"(tests|twin|unproved)/")
 # A mistake in a text is a heading there.
 MISTAKES = [("wrong bodies", r"crates/\w+/wrong-bodies\.edits", r"(?m)^# "),
             ("wrong laws", r"crates/\w+/wrong-laws\.edits", r"(?m)^# "),
-            ("mistakes in Verilog", r"tests/core_mistakes\.md", r"(?m)^### ")]
+            ("mistakes in Verilog", r"tests/parts/core/mistakes\.md", r"(?m)^### ")]
 
 
 def is_paper(path):
@@ -129,11 +129,12 @@ def count_others_by_shell():
         lines() { git ls-files -z -- "$@" | xargs -0 cat | wc -l; }
         lines 'crates/*/src/*' page/src page/wasm include python board core tools plain \\
             ':!plain/crates/*/src/*' ':!*.md'
-        lines tests twin unproved ':(glob,exclude)tests/*.md' ':(glob,exclude)twin/*.md' \\
+        lines tests twin unproved ':(glob,exclude)tests/*.md' \\
+            ':(glob,exclude)tests/parts/**/*.md' ':(glob,exclude)twin/*.md' \\
             ':(glob,exclude)unproved/**/*.md'
         cat crates/*/wrong-bodies.edits | grep -c '^# '
         cat crates/*/wrong-laws.edits | grep -c '^# '
-        grep -c '^### ' tests/core_mistakes.md""")
+        grep -c '^### ' tests/parts/core/mistakes.md""")
     names = ["lines of sources", "lines of tests"] + [name for name, _, _ in MISTAKES]
     return dict(zip(names, map(int, numbers.split())))
 

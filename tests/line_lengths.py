@@ -16,7 +16,7 @@ DATA = re.compile(
 EXEMPT = re.compile(
     r"\.antt$|^plain/crates/"
     r"|^page/(dvg\.html|dvg\.wasm\.made|driver\.listing|src/tables\.mjs)$"
-    r"|^tests/(tool_)?cases/.*\.md$|^tests/compare_mistakes$"
+    r"|^tests/(tool_)?cases/.*\.md$|^tests/parts/compare/mistakes$"
     r"|^crates/[^/]+/wrong-(bodies|laws)\.edits$|^tests/refused$")
 
 

@@ -1,5 +1,5 @@
 -- Steps that compute a byte and flags: logic, sums, comparisons, counts, shifts.
--- tests/board_vectors.py writes this file; Vectors.antt says what the numbers of a step are.
+-- tests/parts/board/vectors.py writes this file; Vectors.antt says what the numbers of a step are.
 use Rattle.std.proofs.Common.{◌≡◌, [], ◌∷◌, refl}
 use Rattle.dvg_calls_6502.proofs.Vectors.{wrong_from, gives}
 

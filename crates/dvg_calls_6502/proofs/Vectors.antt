@@ -1,4 +1,4 @@
--- Single steps of another 6502, that of tests/board_cpu.h, in numbers: the definition gives the same.
+-- Single steps of another 6502, that of tests/parts/board/cpu.h, in numbers: the definition gives the same.
 -- MoveVectors.antt, FlowVectors.antt and ComputeVectors.antt have the steps.
 use Rattle.std.proofs.Common.{ℕ, ◌+◌, ◌*◌, ◌/◌, ◌%◌, ◌^◌, Bool, true, false, List, [], ◌∷◌}
 use Rattle.std.specs.Prelude.{nat_eq, not, ◌&&◌}

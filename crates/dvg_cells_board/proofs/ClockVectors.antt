@@ -1,5 +1,5 @@
 -- Clocks since power-up, as Icarus Verilog reads core/dvg_board.v.
--- tests/core_cells.py writes this file; Vectors.antt says what its numbers are.
+-- tests/parts/core/cells.py writes this file; Vectors.antt says what its numbers are.
 use Rattle.std.proofs.Common.{◌≡◌, ℕ, true, List, [], ◌∷◌, refl}
 use Rattle.dvg_cells_board.proofs.Vectors.{all_pass}
 
