@@ -111,11 +111,10 @@ pub(crate) struct SketchAnswer<A: Allocator> {
     pub remark: Option<Remark>,
 }
 
-// Returns what is answered of `sketch`, which was read of `small`: the first frame that the check
-// refuses, if it refuses one. Returns `OutOfMemory` where an allocation fails.
+// Returns what is answered of `sketch`, which was read: the first frame that the check refuses, if
+// it refuses one. Returns `OutOfMemory` where an allocation fails.
 fn check_read<A: Allocator + Copy>(
     alloc: A,
-    small: &[u8],
     sketch: &Sketch<'_, A>,
 ) -> Result<SketchAnswer<A>, OutOfMemory>
     requires inside { AreInside sketch.now }
@@ -132,7 +131,7 @@ fn check_read<A: Allocator + Copy>(
         Ok(()) => Ok(SketchAnswer {
             fault: None,
             refused: None,
-            remark: remark_on(alloc, small, frames.as_slice())?,
+            remark: remark_on(alloc, sketch.rom.as_slice(), frames.as_slice())?,
         }),
         Err(Unlaid::Memory) => Err(OutOfMemory),
         Err(Unlaid::Refused(refusal)) => {
@@ -157,7 +156,7 @@ pub(crate) fn ask_sketch<A: Allocator + Copy>(
         → AnswersSketch text answer.fault answer.refused) }
 {
     match read_sketch(alloc, small) {
-        Ok(sketch) => check_read(alloc, small, &sketch),
+        Ok(sketch) => check_read(alloc, &sketch),
         Err(Unread::Text(fault)) => Ok(SketchAnswer {
             fault: Some(fault),
             refused: None,

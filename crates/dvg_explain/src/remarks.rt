@@ -1,24 +1,22 @@
 //! What is odd about frames that the check accepts. This is tested: nothing is proved of it but that
 //! it can't panic, and comes to an end.
 use dvg_code::OutOfMemory;
-use dvg_frame::{MAX_OPS, Op, OpKind};
+use dvg_driver::Action;
+use dvg_frame::{Draft, MAX_OPS, Op, OpKind};
 use dvg_gen::Stroke;
-use dvg_io::{ToolFault, Watched};
-use dvg_job::Show;
-use dvg_lay::draw_sketch;
+use dvg_log::Entry;
+use dvg_mem::{Flat, Image, MEMORY_BYTES, Rom};
 use dvg_named::NamedFrame;
+use dvg_world::World;
 use std::alloc::Allocator;
 use std::fmt;
-use std::io::sink;
 
 /// The first place along an axis that isn't on the screen, in 1/512 of a unit: 1,024 units.
 const SCREEN_END: u32 = 1024 * 512;
 
-/// How pictures are shown that nobody sees.
-const SHOW: Show = Show {
-    percent: 100,
-    rate: 1,
-};
+/// The most ticks and fetches by which a picture is drawn. That is enough for one of 65,536 words,
+/// which is the most that `dvg render` draws, and for a frame of 511 words before it.
+const MOST_STEPS: usize = 132_100;
 
 /// What is odd about a frame.
 #[derive(Clone, Copy)]
@@ -139,20 +137,52 @@ fn remark_on_frame(frame: &NamedFrame, strokes: &[Stroke]) -> Option<Remark> {
     })
 }
 
-/// Returns what is odd about the first of `frames` that is odd. They are those of `text`, a sketch
-/// in small letters, and the check accepts them. Returns `OutOfMemory` where an allocation fails.
+// Returns the picture that `world`, which is at its beginning, draws of `ops`, a frame that the
+// check accepts. There is none of a picture that is too long. Returns `OutOfMemory` where an
+// allocation fails.
+fn picture_of<A: Allocator + Copy>(
+    world: &mut World<Flat<A>>,
+    ops: &[Op],
+) -> Result<Option<Vec<Stroke, A>>, OutOfMemory> {
+    let mut draft = Draft::new();
+    if draft.try_extend_from_slice(ops).is_err() {
+        return Ok(None);
+    }
+    world.tick();
+    world.tick();
+    world.offer(&draft);
+    for _ in 0..MOST_STEPS {
+        if world.act() == Action::Sent {
+            world.strobe();
+        }
+        if let Entry::Done(..) = world.fetch()? {
+            return Ok(Some(world.take_picture()));
+        }
+    }
+    Ok(None)
+}
+
+/// Returns what is odd about the first of `frames` over the ROM of `bytes` that is odd. The check
+/// accepts them. Returns `OutOfMemory` where an allocation fails.
 pub(crate) fn remark_on<A: Allocator + Copy>(
     alloc: A,
-    text: &[u8],
+    bytes: &[u8],
     frames: &[NamedFrame],
 ) -> Result<Option<Remark>, OutOfMemory> {
-    let (mut reader, mut writer) = (Watched::new(text), Watched::new(sink()));
-    let pictures = match draw_sketch(alloc, &mut reader, &mut writer, SHOW) {
-        Ok(Ok(pictures)) => pictures,
-        Err(ToolFault::Memory) => return Err(OutOfMemory),
-        Ok(Err(_)) | Err(_) => return Ok(None),
+    let (Ok(rom), Ok(image)) = (
+        Rom::new(alloc, bytes),
+        Image::new(alloc, &[0; MEMORY_BYTES]),
+    ) else {
+        return Err(OutOfMemory);
     };
-    for (frame, strokes) in frames.iter().zip(pictures.iter()) {
+    let mut world = World::<Flat<A>>::new(alloc, rom, &image)?;
+    for frame in frames {
+        if world.begin_anew(alloc, bytes, &image).is_err() {
+            return Err(OutOfMemory);
+        }
+        let Some(strokes) = picture_of(&mut world, frame.ops)? else {
+            return Ok(None);
+        };
         if let Some(remark) = remark_on_frame(frame, strokes.as_slice()) {
             return Ok(Some(remark));
         }
