@@ -34,8 +34,8 @@
 #: make clean     removes build
 #:
 #: PROVE    1: proof has the prover itself prove it, which needs rt: 41 to 47 seconds of a processor
-#:          for a game of 2,900 bytes, if ./prove dvg_closed_cells has proved the crates below here;
-#:          else it proves them first, by estimate in an hour. It waits while other proofs run here
+#:          for a game of 2,900 bytes, if rt has proved the crates below on this machine, as after
+#:          ./prove dvg_closed_cells; else it proves them first, by estimate in half an hour
 #: JUDGED   how many seconds of the board's time premises, judge, film and sound run [20]: so many
 #:          that the file of buttons is played to its end, as by JUDGED ?= 42 in the makefile
 #: SECONDS  the same of emulator and torn [5]; SHOTS: when pictures are taken [1.5 2.5 3.5 4.5]

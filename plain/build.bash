@@ -27,7 +27,7 @@ symbols=DVG_0
 # What is being run, and the folders for what is thrown away; nothing where there is none.
 running=
 work=
-rooms=
+room=
 
 say() {
     echo "$name: $1" >&2
@@ -110,29 +110,48 @@ standing_on() {
     done
 }
 
-# The digest of what is proved of a crate and of all that it is made of.
-digest_of_crate() {
-    local crate files=(crates.txt)
-    for crate in $(crates_of "$1"); do
+# The lines of crates.txt of these crates.
+lines_of() {
+    grep -E "^($(IFS='|' && echo "$*"))([ :]|\$)" "$top/crates.txt"
+}
+
+# The digest of what is proved of these crates: their files, and their lines of crates.txt.
+digest_of_crates() {
+    local crate files=()
+    for crate in "$@"; do
         files+=("crates/$crate/src" "crates/$crate/specs" "crates/$crate/proofs")
     done
-    digest_of_files "${files[@]}"
+    { lines_of "$@" && digest_of_files "${files[@]}"; } | digest
 }
 
-# Says of a crate that it was proved of the sources that are there.
+# The digest of what is proved of a crate and of all that it is made of, and of what rt made of it:
+# the program, and all libraries, of which each has a file `format` with a sum of its files.
+digest_of_made() {
+    local crate crates files=("crates/$1/out/$1" "crates/$1/out/$1.o")
+    mapfile -t crates < <(crates_of "$1")
+    for crate in "${crates[@]}"; do
+        files+=("crates/$crate/out/rlib/$crate.rlib/format")
+    done
+    { digest_of_crates "${crates[@]}" && digest_of_files "${files[@]}"; } | digest
+}
+
+# Says of a crate that `rt ci` proved it of the sources that are there, and made what is there of it
+# and of all that it is made of.
 mark() {
-    digest_of_crate "$1" >"$top/crates/$1/out/proved"
+    digest_of_made "$1" >"$top/crates/$1/out/proved"
 }
 
-# Whether a crate was proved of the sources that are there.
+# Whether a crate is proved of the sources that are there, and what `rt ci` made then is there: not
+# so after another command of rt has built one of these libraries, over which no other one fits.
 is_marked() {
     [ -r "$top/crates/$1/out/proved" ] &&
-        [ "$(cat "$top/crates/$1/out/proved")" = "$(digest_of_crate "$1")" ]
+        [ "$(cat "$top/crates/$1/out/proved")" = "$(digest_of_made "$1")" ]
 }
 
 # Links the proved program of what rt built. It wants no library of the machine where the C compiler
 # finds such ones to put into it: then a start takes a third of the time. Else it is linked as rt
-# does it. Either way it is the same object, and no proof is of how it is linked.
+# does it, also where rt kept it of an earlier run, without its object. Either way it is the same
+# object, and no proof is of how it is linked.
 link_program() {
     local made=$top/crates/dvg/out/dvg kit
     kit=$(dirname "$(dirname "$(readlink -f "$(command -v rt)")")")
@@ -141,35 +160,30 @@ link_program() {
         "$kit/c/liblibc_c.a" 2>/dev/null || cp "$made" "$program"
 }
 
-# Says of all crates and of the program that they are proved: `rt ci` has passed, which began with
-# sources of this digest. Fails where these aren't the sources that are there.
+# Says of all crates that they are proved: `rt ci` has passed, which began with sources of this
+# digest. Fails where these aren't the sources that are there.
 mark_all() {
     local crate
-    [ "$(digest_of_proofs)" = "$1" ] && link_program && set_of "$program" "$1" || return
+    [ "$(digest_of_proofs)" = "$1" ] || return
     for crate in "$top"/crates/*/out; do
         crate=${crate%/out}
         mark "${crate##*/}"
     done
 }
 
-# Removes the libraries that an earlier `rt ci` left, which no other command of rt takes: they have
-# the statements of what was proved, without proofs, and no stamp.
-drop_statements() {
-    local library
-    for library in "$top"/crates/*/out/rlib; do
-        [ ! -d "$library" ] || [ -e "$library/stamp" ] || rm -rf "$library"
-    done
+# Removes all libraries, which `rt ci` would put back beside those that it makes: they don't fit
+# them. rt builds its own ones again over what `rt check` keeps, which stays.
+drop_libraries() {
+    rm -rf "$top"/crates/*/out/rlib
 }
 
-# Makes the archive of the library for C over the libraries that `rt ci` has built of sources of
-# this digest. So `dvg_c` alone is proved again. `rt lib` would prove all below it again, too, since
-# it takes no library that has statements alone. Fails where other libraries than those are there.
+# Makes the archive of the library for C over the libraries that `rt ci` made, which have the
+# statements of what was proved, without proofs. So `dvg_c` alone is proved again. `rt lib` takes no
+# such library, and would prove all below it again.
 archive_of_statements() {
     local kit crate words=(--crate-name dvg_c src/lib.rt --crate-type staticlib --links dvg_c=)
     kit=$(dirname "$(dirname "$(readlink -f "$(command -v rt)")")")
     for crate in $(crates_of dvg_c | tail -n +2); do
-        [ -d "$top/crates/$crate/out/rlib/$crate.rlib" ] || return
-        [ ! -e "$top/crates/$crate/out/rlib/stamp" ] || return
         words+=(-L "dependency=$top/crates/$crate/out/rlib")
     done
     for crate in $(below dvg_c); do
@@ -177,10 +191,8 @@ archive_of_statements() {
     done
     words+=(--extern "std=$kit/rlibs/std.rlib" -L "dependency=$kit/rlibs" --backend llvm)
     words+=(--antt-project "$kit/rattle/logic/antt-project.json" --logic-built "$kit/logic_built")
-    mkdir -p "$top/crates/dvg_c/out"
     (cd "$top/crates/dvg_c" && "$kit/bin/rattle" build "${words[@]}" --toolchain "$kit/toolchain" \
-        --jobs 2 -o "$library") || return
-    [ "$(digest_of_proofs)" = "$1" ] && set_of "$library" "$1"
+        --jobs 2 -o "$library")
 }
 
 # The digest of all that the plain form is made of.
@@ -242,7 +254,8 @@ stop_running() {
 at_exit() {
     stop_running
     [ -z "$work" ] || rm -rf "$work"
-    [ -z "$rooms" ] || rm -rf "$rooms"
+    # What ends now may still write there.
+    [ -z "$room" ] || rm -rf "$room" 2>/dev/null || { sleep 1 && rm -rf "$room"; }
 }
 trap at_exit EXIT
 trap 'exit 70' INT TERM HUP
