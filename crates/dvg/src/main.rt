@@ -1,6 +1,7 @@
 //! The program `dvg`, for people who write and debug display lists of the Digital Vector Generator.
 #![tactic(auto)]
 
+mod files;
 mod kept;
 mod told;
 
@@ -12,6 +13,7 @@ use dvg_tool::{
     Done, Job, LogRule, MISUSE, MOST_TEXT_BYTES, TextFault, ToolFault, Watched, arguments_status,
     finish, job, perform, status,
 };
+use files::is_of_a_word;
 use kept::Kept;
 use std::alloc::Global;
 use std::io::{BufWriter, IsTerminal, Read, Write};
@@ -48,23 +50,11 @@ fn complain(rt: &HostRuntime, fault: ToolFault) {
     let _ = eprintln!(rt; "dvg: {fault}");
 }
 
-/// Returns whether `error` is of a word that is no option, such as the name of a file.
-fn is_of_a_word(rt: &HostRuntime, error: &Error) -> bool {
-    let mut text = String::new(rt.alloc());
-    if write!(text, "{error}").is_err() {
-        return false;
-    }
-    match text.strip_prefix("error: unexpected argument '") {
-        Some(word) => !word.starts_with('-') && !word.starts_with('\''),
-        None => false,
-    }
-}
-
 /// Prints on standard error how a file is read, where `error` is of the name of one after a
 /// subcommand, the second of `arguments`.
 fn tell_of_files(rt: &HostRuntime, arguments: &[String], error: &Error) {
     match arguments.get(1) {
-        Some(command) if is_of_a_word(rt, error) => {
+        Some(command) if is_of_a_word(error) => {
             let _ = eprintln!(rt; "a file is read by `<`: dvg {command} < FILE");
         }
         _ => {}

@@ -47,7 +47,11 @@ fn forms_of(kind: Kind) -> (&'static [Form], &'static [Form]) {
 // Returns the word that is perhaps meant by the first of `line`, or by the one after a name there.
 // It is empty where that one may begin a line of this `kind`, or is like none. Returns
 // `OutOfMemory` where an allocation fails.
-fn meant<A: Allocator + Copy>(alloc: A, kind: Kind, line: &[u8]) -> Result<&'static str, OutOfMemory> {
+fn meant<A: Allocator + Copy>(
+    alloc: A,
+    kind: Kind,
+    line: &[u8],
+) -> Result<&'static str, OutOfMemory> {
     let (own, others) = forms_of(kind);
     let begin = usize::from(word_at(line, 0).ends_with(b":"));
     let word = word_at(line, begin);

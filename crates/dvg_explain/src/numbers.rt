@@ -79,7 +79,7 @@ static SVEC: [Number; 4] = [
     },
 ];
 
-/// The number of an event that comes several times.
+/// The number of an event that comes several times. It may be left out.
 static TIMES: [Number; 1] = [Number {
     name: "N",
     least: 1,
@@ -186,7 +186,8 @@ impl Number {
 pub(crate) fn wrong_number(line: &[u8]) -> Option<WrongNumber<'_>> {
     let begin = usize::from(word_at(line, 0).ends_with(b":"));
     let numbers = numbers_of(word_at(line, begin));
-    if numbers.is_empty() {
+    let is_alone = word_at(line, begin.saturating_add(1)).is_empty();
+    if numbers.is_empty() || is_alone && numbers.len() == TIMES.len() {
         return None;
     }
     let mut at = begin;

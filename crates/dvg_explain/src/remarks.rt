@@ -35,7 +35,8 @@ impl fmt::Display for Oddity {
             Oddity::Unreached => {
                 "no run gets here: the operation before it doesn't go on, and nothing leads here"
             }
-            Oddity::Empty => "the frame that begins here draws no stroke: it needs a vector with a Z above 0",
+            Oddity::Empty =>
+                "the frame that begins here draws no stroke: it needs a vector with a Z above 0",
             Oddity::Dark => {
                 "the frame that begins here draws nothing on the screen, where X and Y are 0 to 1023"
             }

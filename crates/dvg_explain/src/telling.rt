@@ -15,7 +15,7 @@ use crate::remarks::Remark;
 use crate::sketch_line::explain_line;
 use crate::text::Text;
 use crate::unread_log::{Logged, UNENDED, logged_for};
-use dvg_blame::{Blamed, Reason, Refusal};
+use dvg_blame::{Blamed, Reason};
 use dvg_dump::{LARGE_DUMP_BYTES, SMALL_DUMP_BYTES};
 use dvg_logs::{LogFinding, LogVerdict};
 use dvg_mem::{LARGE_ROM_BYTES, MEMORY_BYTES};
@@ -225,13 +225,7 @@ impl<A: Allocator + Copy> Examined<'_, A> {
     }
 
     // Tells of `fault`, which is at line `number`.
-    fn tell_at(
-        &self,
-        alloc: A,
-        out: &mut Text<A>,
-        fault: TextFault,
-        number: usize,
-    ) -> fmt::Result {
+    fn tell_at(&self, alloc: A, out: &mut Text<A>, fault: TextFault, number: usize) -> fmt::Result {
         tell_line(out, number, self.line(number).0)?;
         let is_told = self.tell_mistake(alloc, out, fault, number)?;
         self.expect(alloc, out, fault, number, is_told)?;

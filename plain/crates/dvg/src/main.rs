@@ -5,6 +5,7 @@ use std::prelude::*;
 
 use std::{eprint, eprintln};
 
+mod files;
 mod kept;
 mod told;
 
@@ -16,6 +17,7 @@ use dvg_tool::{
     Done, Job, LogRule, MISUSE, MOST_TEXT_BYTES, TextFault, ToolFault, Watched, arguments_status,
     finish, job, perform, status,
 };
+use files::is_of_a_word;
 use kept::Kept;
 use std::alloc::Global;
 use std::io::{BufWriter, IsTerminal, Read, Write};
@@ -52,9 +54,20 @@ fn complain(rt: &HostRuntime, fault: ToolFault) {
     let _ = eprintln!(rt; "dvg: {fault}");
 }
 
-/// Prints `error`: the help that was asked for, or why the arguments ask for nothing. Returns the
+/// Prints on standard error how a file is read, where `error` is of the name of one after a
+/// subcommand, the second of `arguments`.
+fn tell_of_files(rt: &HostRuntime, arguments: &[String], error: &Error) {
+    match arguments.get(1) {
+        Some(command) if is_of_a_word(error) => {
+            let _ = eprintln!(rt; "a file is read by `<`: dvg {command} < FILE");
+        }
+        _ => {}
+    }
+}
+
+/// Prints `error`: the help that was asked for, or why `arguments` ask for nothing. Returns the
 /// exit status.
-fn answer_arguments(rt: &HostRuntime, error: &Error) -> u8 {
+fn answer_arguments(rt: &HostRuntime, arguments: &[String], error: &Error) -> u8 {
     match error.kind() {
         ErrorKind::DisplayHelp | ErrorKind::DisplayVersion => {
             if help(rt, error).is_err() {
@@ -65,6 +78,7 @@ fn answer_arguments(rt: &HostRuntime, error: &Error) -> u8 {
         ErrorKind::OutOfMemory => complain(rt, ToolFault::Memory),
         _ => {
             let _ = eprint!(rt; "{error}");
+            tell_of_files(rt, arguments, error);
         }
     }
     arguments_status(error)
@@ -207,7 +221,7 @@ fn do_arguments(rt: &HostRuntime, arguments: &[String]) -> u8 {
         Ok(job @ (Job::Render { .. } | Job::RenderCheck | Job::Lay { .. })) => do_sketch(rt, job),
         Ok(job @ Job::Torn { rule, base }) => do_torn(rt, job, rule, base),
         Ok(job) => do_job(rt, job),
-        Err(error) => answer_arguments(rt, &error),
+        Err(error) => answer_arguments(rt, arguments, &error),
     }
 }
 

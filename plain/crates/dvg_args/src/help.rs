@@ -429,18 +429,18 @@ What is wrong with an input, and what to do: `dvg explain < INPUT`.";
 /// The input and output of `explain`.
 pub(crate) const EXPLAIN: &str = "Standard input: any input of `dvg`, at most 1,048,576 bytes.
 
-Standard output: a line `kind: KIND, ..`, where KIND is words, draft, sketch,
-trace, dump or log, and `nothing is wrong` or `something is wrong` follows; or
-`kind: none`. Then what is wrong first, with its line, what was expected there,
-and what to do; or which commands take the input.
+Standard output: what is wrong first, with its line, what was expected there, and
+what to do; or what is odd, and which commands take the input. The last line is
+`kind: KIND, ..`, where KIND is words, draft, sketch, trace, dump or log, and
+`accepted` or `something is wrong` follows; or `kind: none`.
 
-Nothing is found that the command doesn't find which reads this kind. The status
-is 0 where nothing is wrong, and else 1.
+An input is accepted if the command takes it that reads this kind, and of a log,
+if `dvg torn` says that it isn't torn. The status is 0 then, and else 1.
 
 Example:
   $ printf 'labs 512 400 0\\nvctr 9 -100 100 7\\n' | dvg explain
-  kind: draft, something is wrong
-  fault 5 runs off 1
   line 2: vctr 9 -100 100 7
   it is the last operation, and one must come after it
-  do: end with halt, return or a jump";
+  do: end with halt, return or a jump
+  fault 5 runs off 1
+  kind: draft, something is wrong";

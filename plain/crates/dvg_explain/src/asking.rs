@@ -4,8 +4,9 @@ use std::prelude::*;
 use crate::frames::{RefusedFrame, SketchAnswer, ask_sketch};
 use crate::kind::Kind;
 use crate::lines::second_said;
+use crate::remarks::Remark;
 use dvg_code::OutOfMemory;
-use dvg_logs::read_log_line;
+use dvg_logs::{LogVerdict, judge_log, read_log_line};
 use dvg_read::{TextFault, TextLines, Unread, read_draft, read_trace};
 use std::alloc::Allocator;
 
@@ -19,8 +20,12 @@ pub struct Answers<A: Allocator> {
     pub sketch: Option<TextFault>,
     /// The first frame that the check refuses, of a sketch that is read whole.
     pub refused: Option<RefusedFrame<A>>,
+    /// What is odd about a sketch of which it refuses no frame.
+    pub remark: Option<Remark>,
     /// That of logs, whose bytes are written at addresses of the generator.
     pub log: Option<TextFault>,
+    /// What `torn` says of such a log, or its fault.
+    pub judged: Result<LogVerdict, TextFault>,
     /// The kind of text as which the second line that says something is read alone.
     pub second: Kind,
 }
@@ -94,13 +99,19 @@ pub(crate) fn ask<A: Allocator + Copy>(
     text: &[u8],
     small: &[u8],
 ) -> Result<Answers<A>, OutOfMemory> {
-    let SketchAnswer { fault, refused } = ask_sketch(alloc, small)?;
+    let SketchAnswer {
+        fault,
+        refused,
+        remark,
+    } = ask_sketch(alloc, small)?;
     Ok(Answers {
         draft: draft_fault(text),
         trace: trace_fault(alloc, text)?,
         sketch: fault,
         refused,
+        remark,
         log: log_fault(text),
+        judged: judge_log(text, None),
         second: kind_of_line(alloc, second_said(small))?,
     })
 }

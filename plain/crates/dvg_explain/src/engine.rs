@@ -9,7 +9,8 @@ use crate::telling::{Examined, tell_long};
 use crate::text::Text;
 use dvg_code::OutOfMemory;
 use dvg_io::{Engine, StreamFailed, ToolFault, Watched, serve, write_lines, write_whole};
-use dvg_read::{MOST_TEXT_BYTES, Unread};
+use dvg_logs::{LogFinding, LogVerdict};
+use dvg_read::{MOST_TEXT_BYTES, TextFault, Unread};
 use std::alloc::Allocator;
 use std::io::{Read, Write};
 
@@ -22,8 +23,16 @@ fn cut_of<A: Allocator>(alloc: A, text: &[u8], kind: Kind) -> Result<Option<usiz
     }
 }
 
-// Whether nothing is wrong with an input of this `kind`, to which the readers of texts answered
-// `answers`. Words may be `cut`.
+// Whether nothing is torn in a log, by what `torn` says of it, `judged`.
+fn is_untorn(judged: Result<LogVerdict, TextFault>) -> bool {
+    match judged {
+        Ok(verdict) => verdict.finding == LogFinding::NotTorn,
+        Err(_) => false,
+    }
+}
+
+// Whether the commands take an input of this `kind`, and say yes, where the readers of texts
+// answered `answers`. Words may be `cut`.
 fn is_good<A: Allocator>(answers: &Answers<A>, kind: Kind, cut: Option<usize>) -> bool {
     match kind {
         Kind::Words => cut.is_none(),
@@ -32,7 +41,7 @@ fn is_good<A: Allocator>(answers: &Answers<A>, kind: Kind, cut: Option<usize>) -
             && answers.refused.is_none(),
         Kind::Sketch => answers.sketch.is_none() && answers.refused.is_none(),
         Kind::Trace => answers.trace.is_none(),
-        Kind::Log => answers.log.is_none(),
+        Kind::Log => is_untorn(answers.judged),
         Kind::Dump => true,
         Kind::Other => false,
     }
@@ -98,14 +107,14 @@ fn find_in<A: Allocator + Copy>(alloc: A, text: &[u8]) -> Result<Finding<A>, Out
     find_short(alloc, text)
 }
 
-// Writes `head`, a line, and the lines of `text` to `writer`, each by itself.
+// Writes the lines of `text` and then `last`, a line, to `writer`, each by itself.
 fn write_told<W: Write>(
-    head: &[u8],
     text: &[u8],
+    last: &[u8],
     writer: &mut Watched<W>,
 ) -> Result<(), StreamFailed> {
-    write_whole(writer, head)?;
-    write_lines(writer, text)
+    write_lines(writer, text)?;
+    write_whole(writer, last)
 }
 
 // The engine.
@@ -128,13 +137,13 @@ impl<A: Allocator + Copy> Engine<A> for ExplainEngine {
         finding: &Finding<A>,
         writer: &mut Watched<W>,
     ) -> Result<(), StreamFailed> {
-        write_told(finding.head(), finding.text.as_slice(), writer)
+        write_told(finding.text.as_slice(), finding.last(), writer)
     }
 }
 
-/// Reads an input of any kind from `reader`. Writes to `writer` for which kind it is taken, and
-/// then what is wrong with it first, or which commands take it (the texts are this project's own
-/// choice). Returns what was found.
+/// Reads an input of any kind from `reader`. Writes to `writer` what is wrong with it first, or
+/// which commands take it, and in the last line for which kind it is taken (the texts are this
+/// project's own choice). Returns what was found.
 ///
 /// - `Reader`, `Writer`: that stream failed. After `Writer` a beginning of the text went out.
 /// - `Memory`: an allocation failed.

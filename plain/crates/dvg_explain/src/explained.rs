@@ -53,6 +53,22 @@ pub struct Explained<'t, 'a> {
     pub expected: Expected<'a>,
 }
 
+/// A word of a line, as it is shown.
+#[derive(Clone, Copy)]
+pub(crate) struct Shown<'a> {
+    /// The bytes of the word.
+    pub bytes: &'a [u8],
+}
+
+impl fmt::Display for Shown<'_> {
+    fn fmt(&self, f: &mut fmt::Formatter<'_>) -> fmt::Result {
+        for byte in self.bytes {
+            write_byte(f, *byte)?;
+        }
+        Ok(())
+    }
+}
+
 /// Writes `byte`: a tab as a blank, and as `?` each byte that is no printable ASCII.
 fn write_byte(f: &mut fmt::Formatter<'_>, byte: u8) -> fmt::Result {
     let shown = match byte {
@@ -63,32 +79,14 @@ fn write_byte(f: &mut fmt::Formatter<'_>, byte: u8) -> fmt::Result {
     write!(f, "{}", char::from(shown))
 }
 
-/// Writes `name`.
-fn write_name(f: &mut fmt::Formatter<'_>, name: &[u8]) -> fmt::Result {
-    for byte in name {
-        write_byte(f, *byte)?;
-    }
-    Ok(())
-}
-
 /// Writes where `name` is, which is `found`.
 fn write_found(f: &mut fmt::Formatter<'_>, name: &[u8], found: Found) -> fmt::Result {
-    if let Found::Nowhere = found {
-        write!(f, "no line gives ")?;
-        return write_name(f, name);
-    }
-    write_name(f, name)?;
+    let name = Shown { bytes: name };
     match found {
-        Found::Nowhere => Ok(()),
-        Found::In(frame, at) => write!(f, " is in {frame}, at line {at}"),
-        Found::InRom(token) => {
-            write!(f, " is in the ROM: {token} ")?;
-            write_name(f, name)
-        }
-        Found::InFrame(token) => {
-            write!(f, " is in this frame: {token} ")?;
-            write_name(f, name)
-        }
+        Found::Nowhere => write!(f, "no line gives {name}"),
+        Found::In(frame, at) => write!(f, "{name} is in {frame}, at line {at}"),
+        Found::InRom(token) => write!(f, "{name} is in the ROM: {token} {name}"),
+        Found::InFrame(token) => write!(f, "{name} is in this frame: {token} {name}"),
     }
 }
 
@@ -106,14 +104,15 @@ impl fmt::Display for Expected<'_> {
                 write_openings(f, operations())
             }
             Expected::NoAddress(name) => {
-                write!(f, "another name than ")?;
-                write_name(f, name)?;
-                write!(f, ": three hexadecimal digits are an address")
+                let name = Shown { bytes: name };
+                write!(
+                    f,
+                    "another name than {name}: three hexadecimal digits are an address"
+                )
             }
             Expected::Another(name, at) => {
-                write!(f, "another name: ")?;
-                write_name(f, name)?;
-                write!(f, " is given at line {at}")
+                let name = Shown { bytes: name };
+                write!(f, "another name: {name} is given at line {at}")
             }
             Expected::Known(wanted, name, found) => {
                 write!(f, "{wanted}: ")?;

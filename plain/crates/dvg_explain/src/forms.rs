@@ -4,7 +4,8 @@ use std::fmt;
 
 /// A token that may begin a line, and what is expected of a line that it begins.
 pub struct Form {
-    token: &'static str,
+    /// The token.
+    pub token: &'static str,
     expected: &'static str,
 }
 

@@ -1,4 +1,5 @@
 //! What the check says of the frames of a sketch. A draft is one, too.
+use crate::remarks::{Remark, remark_on};
 use dvg_blame::{Blamed, Reason, Refusal, Unlaid, check_all};
 use dvg_code::OutOfMemory;
 use dvg_frame::{Draft, FrameFault, Op, OpKind, check};
@@ -99,24 +100,34 @@ pub(crate) struct SketchAnswer<A: Allocator> {
     pub fault: Option<TextFault>,
     /// The first frame that the check refuses, if the input is read whole.
     pub refused: Option<RefusedFrame<A>>,
+    /// What is odd about its frames, if the check refuses none.
+    pub remark: Option<Remark>,
 }
 
-// Returns the first frame of `sketch`, which was read, that the check refuses, if it refuses one.
-// Returns `OutOfMemory` where an allocation fails.
-fn first_refused<A: Allocator + Copy>(
+// Returns what is answered of `sketch`, which was read: the first frame that the check refuses, if
+// it refuses one. Returns `OutOfMemory` where an allocation fails.
+fn check_read<A: Allocator + Copy>(
     alloc: A,
     sketch: &Sketch<'_, A>,
-) -> Result<Option<RefusedFrame<A>>, OutOfMemory> {
+) -> Result<SketchAnswer<A>, OutOfMemory> {
     let frames = sketch.frames(alloc)?;
     let Ok(rom) = Rom::new(alloc, sketch.rom.as_slice()) else {
         return Err(OutOfMemory);
     };
     match check_all(alloc, &rom, sketch.names.as_slice(), frames.as_slice()) {
-        Ok(()) => Ok(None),
+        Ok(()) => Ok(SketchAnswer {
+            fault: None,
+            refused: None,
+            remark: remark_on(alloc, sketch.rom.as_slice(), frames.as_slice())?,
+        }),
         Err(Unlaid::Memory) => Err(OutOfMemory),
         Err(Unlaid::Refused(refusal)) => {
             let back = back_of(&rom, frames.as_slice(), &refusal);
-            Ok(Some(RefusedFrame { refusal, back }))
+            Ok(SketchAnswer {
+                fault: None,
+                refused: Some(RefusedFrame { refusal, back }),
+                remark: None,
+            })
         }
     }
 }
@@ -128,13 +139,11 @@ pub(crate) fn ask_sketch<A: Allocator + Copy>(
     small: &[u8],
 ) -> Result<SketchAnswer<A>, OutOfMemory> {
     match read_sketch(alloc, small) {
-        Ok(sketch) => Ok(SketchAnswer {
-            fault: None,
-            refused: first_refused(alloc, &sketch)?,
-        }),
+        Ok(sketch) => check_read(alloc, &sketch),
         Err(Unread::Text(fault)) => Ok(SketchAnswer {
             fault: Some(fault),
             refused: None,
+            remark: None,
         }),
         Err(Unread::Memory) => Err(OutOfMemory),
     }

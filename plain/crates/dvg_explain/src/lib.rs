@@ -8,6 +8,7 @@
 
 extern crate plain_std as std;
 
+mod alike;
 mod asking;
 mod choosing;
 mod engine;
@@ -19,8 +20,11 @@ mod hints;
 mod kind;
 mod lines;
 mod looks;
+mod mistakes;
+mod numbers;
 mod places;
 mod raw;
+mod remarks;
 mod sketch_line;
 mod telling;
 mod text;

@@ -5,6 +5,9 @@ struct Look {
     is: &'static str,
 }
 
+/// What a program for the 6502 is.
+const ASSEMBLER: &str = "6502 assembler: docs/BOARD.md tells how such a program draws frames";
+
 /// Files that are no texts.
 static FILES: [Look; 13] = [
     Look {
@@ -80,7 +83,7 @@ static TEXTS: [Look; 6] = [
         is: "JSON",
     },
     Look {
-        begin: b"%PDF-",
+        begin: b"%pdf-",
         is: "a PDF file",
     },
     Look {
@@ -117,6 +120,42 @@ static LINES: [Look; 6] = [
     },
 ];
 
+/// Texts of other kinds, by how one of their lines begins behind its blanks.
+static WORDS: [Look; 8] = [
+    Look {
+        begin: b".segment",
+        is: ASSEMBLER,
+    },
+    Look {
+        begin: b".include",
+        is: ASSEMBLER,
+    },
+    Look {
+        begin: b".proc",
+        is: ASSEMBLER,
+    },
+    Look {
+        begin: b".byte",
+        is: ASSEMBLER,
+    },
+    Look {
+        begin: b"lda ",
+        is: ASSEMBLER,
+    },
+    Look {
+        begin: b"ldx ",
+        is: ASSEMBLER,
+    },
+    Look {
+        begin: b"sta ",
+        is: ASSEMBLER,
+    },
+    Look {
+        begin: b"jsr ",
+        is: ASSEMBLER,
+    },
+];
+
 // Returns what `bytes` look like by the first of `looks` with which they begin. It is empty where
 // they begin with none.
 fn look_of(looks: &[Look], bytes: &[u8]) -> &'static str {
@@ -136,10 +175,14 @@ pub(crate) fn file_look(bytes: &[u8]) -> &'static str {
     look_of(FILES.as_slice(), bytes)
 }
 
-/// Returns what `text` looks like. It is empty where that isn't known.
+/// Returns what `text`, in small letters, looks like. It is empty where that isn't known.
 pub(crate) fn text_look(text: &[u8]) -> &'static str {
     for line in text.split(|byte| *byte == b'\n') {
         match look_of(LINES.as_slice(), line) {
+            "" => {}
+            found => return found,
+        }
+        match look_of(WORDS.as_slice(), line.trim_ascii_start()) {
             "" => {}
             found => return found,
         }

@@ -3,7 +3,7 @@ use std::prelude::*;
 
 use crate::asking::Answers;
 use crate::choosing::line_of;
-use crate::explained::{Explained, LineText};
+use crate::explained::{Expected, Explained, LineText};
 use crate::faults::advice_for;
 use crate::forms::{EVENTS, FULL, Openings, form_in, form_of, operations};
 use crate::frames::RefusedFrame;
@@ -11,13 +11,17 @@ use crate::hints::{begins_operation, hint_of, plain_hint};
 use crate::kind::Kind;
 use crate::lines::{before_line, first_said, is_unended, last_line, line_at, word_at};
 use crate::looks::{file_look, text_look};
+use crate::mistakes::mistake_in;
 use crate::raw::{MOST_WORD_BYTES, is_text};
+use crate::remarks::Remark;
 use crate::sketch_line::explain_line;
 use crate::text::Text;
-use crate::unread_log::{UNENDED, logged_for};
-use dvg_blame::{Blamed, Reason, Refusal};
+use crate::unread_log::{Logged, UNENDED, logged_for};
+use dvg_blame::{Blamed, Reason};
 use dvg_dump::{LARGE_DUMP_BYTES, SMALL_DUMP_BYTES};
+use dvg_logs::{LogFinding, LogVerdict};
 use dvg_mem::{LARGE_ROM_BYTES, MEMORY_BYTES};
+use dvg_print::Line;
 use dvg_read::{MOST_TEXT_BYTES, TextFault, Unread, read_trace};
 use std::alloc::Allocator;
 use std::fmt::{self, Write};
@@ -73,10 +77,10 @@ fn tell_sizes<A: Allocator>(out: &mut Text<A>, bytes: &[u8]) -> fmt::Result {
 
 // Tells that the words of `bytes` are cut at `place`.
 fn tell_cut<A: Allocator>(out: &mut Text<A>, bytes: &[u8], place: usize) -> fmt::Result {
-    let fault = TextFault::Cut(place);
-    write!(out, "{fault}\n")?;
     write!(out, "the last word begins an instruction of two words\n")?;
-    tell_sizes(out, bytes)
+    tell_sizes(out, bytes)?;
+    let fault = TextFault::Cut(place);
+    write!(out, "{fault}\n")
 }
 
 // Tells which commands take the dump `bytes`.
@@ -113,10 +117,17 @@ impl<A: Allocator + Copy> Examined<'_, A> {
         (line_at(self.text, number), line_at(self.small, number))
     }
 
-    // Tells what was expected of line `number` of a draft or a sketch.
-    fn expect_row(&self, out: &mut Text<A>, number: usize) -> fmt::Result {
+    // Tells what was expected of line `number` of a draft or a sketch. A list of all words that may
+    // begin it is left out if its mistake `is_told`.
+    fn expect_row(&self, out: &mut Text<A>, number: usize, is_told: bool) -> fmt::Result {
         let fault = self.answers.sketch.unwrap_or(TextFault::Syntax(number));
         match explain_line(fault, self.text, self.small) {
+            Some(
+                Explained {
+                    expected: Expected::Beginning,
+                    ..
+                },
+            ) if is_told => Ok(()),
             Some(Explained { expected, .. }) => tell_expected(out, expected),
             None => Ok(()),
         }
@@ -131,11 +142,17 @@ impl<A: Allocator + Copy> Examined<'_, A> {
         }
     }
 
-    // Tells what was expected of line `number` of a trace.
-    fn expect_event(&self, alloc: A, out: &mut Text<A>, number: usize) -> fmt::Result {
+    // Tells what was expected of line `number` of a trace. A list is left out if `is_told`.
+    fn expect_event(
+        &self,
+        alloc: A,
+        out: &mut Text<A>,
+        number: usize,
+        is_told: bool,
+    ) -> fmt::Result {
         let word = word_at(self.line(number).1, 0);
         if self.is_in_offer(alloc, number)? {
-            return expect_operation(out, word);
+            return expect_operation(out, word, is_told);
         }
         match form_in(EVENTS.as_slice(), word) {
             "" => {}
@@ -143,6 +160,7 @@ impl<A: Allocator + Copy> Examined<'_, A> {
         }
         let forms = EVENTS.as_slice();
         match form_of(word) {
+            "" if is_told => Ok(()),
             "" => write!(
                 out,
                 "expected a line that begins with {}, map, rom or #\n",
@@ -158,27 +176,61 @@ impl<A: Allocator + Copy> Examined<'_, A> {
         }
     }
 
-    // Tells what was expected of line `number`, at which `fault` is.
-    fn expect(&self, alloc: A, out: &mut Text<A>, fault: TextFault, number: usize) -> fmt::Result {
+    // Tells what was expected of line `number` of a log. A list is left out if `is_told`.
+    fn expect_logged(&self, out: &mut Text<A>, number: usize, is_told: bool) -> fmt::Result {
+        match logged_for(word_at(self.line(number).1, 0)) {
+            Logged::Beginning if is_told => Ok(()),
+            expected => tell_expected(out, expected),
+        }
+    }
+
+    // Tells what was expected of line `number`, at which `fault` is. A list of all words that may
+    // begin it is left out if its mistake `is_told`.
+    fn expect(
+        &self,
+        alloc: A,
+        out: &mut Text<A>,
+        fault: TextFault,
+        number: usize,
+        is_told: bool,
+    ) -> fmt::Result {
         match (fault, self.kind) {
             (TextFault::Many(_), _) => {
                 tell_expected(out, "at most 65536 events: tick N counts as N of them")
             }
             (TextFault::Full(_), Kind::Trace) => tell_expected(out, FULL),
-            (_, Kind::Trace) => self.expect_event(alloc, out, number),
-            (_, Kind::Log) => tell_expected(out, logged_for(word_at(self.line(number).1, 0))),
-            _ => self.expect_row(out, number),
+            (_, Kind::Trace) => self.expect_event(alloc, out, number, is_told),
+            (_, Kind::Log) => self.expect_logged(out, number, is_told),
+            _ => self.expect_row(out, number, is_told),
         }
     }
 
-    // Tells what to do about line `number`, which isn't read.
-    fn cure(&self, out: &mut Text<A>, number: usize) -> fmt::Result {
-        let (line, small) = self.line(number);
-        tell_hint(out, hint_of(small))?;
-        if self.kind == Kind::Trace {
-            tell_hint(out, plain_hint(line))?;
+    // Tells what is wrong with line `number`, where that is seen in it. `fault` is there. Returns
+    // whether something was told.
+    fn tell_mistake(
+        &self,
+        alloc: A,
+        out: &mut Text<A>,
+        fault: TextFault,
+        number: usize,
+    ) -> Result<bool, fmt::Error> {
+        let TextFault::Syntax(_) = fault else {
+            return Ok(false);
+        };
+        match mistake_in(alloc, self.kind, self.text, self.small, number) {
+            Ok(Some(mistake)) => write!(out, "{mistake}\n")?,
+            Ok(None) => return Ok(false),
+            Err(_) => return Err(fmt::Error),
         }
-        if self.kind != Kind::Other && is_unended(self.text, number) {
+        Ok(true)
+    }
+
+    // Tells of `fault`, which is at line `number`.
+    fn tell_at(&self, alloc: A, out: &mut Text<A>, fault: TextFault, number: usize) -> fmt::Result {
+        tell_line(out, number, self.line(number).0)?;
+        let is_told = self.tell_mistake(alloc, out, fault, number)?;
+        self.expect(alloc, out, fault, number, is_told)?;
+        if is_unended(self.text, number) {
             write!(out, "{UNENDED}\n")?;
         }
         Ok(())
@@ -186,18 +238,47 @@ impl<A: Allocator + Copy> Examined<'_, A> {
 
     // Tells of `fault`, which the text has for its kind.
     fn tell_fault(&self, alloc: A, out: &mut Text<A>, fault: TextFault) -> fmt::Result {
-        write!(out, "{fault}\n")?;
-        if let Some(number) = shown_line(fault) {
-            tell_line(out, number, self.line(number).0)?;
-            self.expect(alloc, out, fault, number)?;
-            return self.cure(out, number);
+        match shown_line(fault) {
+            Some(number) => self.tell_at(alloc, out, fault, number)?,
+            None if fault == TextFault::Unended => {
+                let number = last_line(self.text, b"offer");
+                tell_line(out, number, self.line(number).0)?;
+                write!(out, "expected end after the operations of this offer\n")?;
+            }
+            None => {}
         }
-        if fault == TextFault::Unended {
-            let number = last_line(self.text, b"offer");
-            tell_line(out, number, self.line(number).0)?;
-            write!(out, "expected end after the operations of this offer\n")?;
+        write!(out, "{fault}\n")
+    }
+
+    // Returns what `torn` says of a log, if it doesn't say that it isn't torn.
+    fn torn(&self) -> Option<LogVerdict> {
+        match (self.kind, self.answers.judged) {
+            (Kind::Log, Ok(verdict)) if verdict.finding != LogFinding::NotTorn => Some(verdict),
+            _ => None,
         }
-        Ok(())
+    }
+
+    // Tells of a log of which `torn` says `verdict`.
+    fn tell_torn(&self, out: &mut Text<A>, verdict: LogVerdict) -> fmt::Result {
+        match verdict.finding {
+            LogFinding::NotTorn => {}
+            LogFinding::Torn { line, .. } => {
+                tell_line(out, line, self.line(line).0)?;
+                write!(
+                    out,
+                    "it writes in the half that is being drawn, so the picture is torn\n"
+                )?;
+            }
+            LogFinding::NoRunDrew if verdict.counts.runs == 0 => {
+                write!(out, "no line says started, as each begins a run\n")?;
+                write!(out, "do: log started where a strobe begins a run\n")?;
+            }
+            LogFinding::NoRunDrew => {
+                write!(out, "no run fetches the jump to a half, at word 000\n")?;
+                write!(out, "do: log each word that is fetched after started\n")?;
+            }
+        }
+        tell_verdict(out, verdict)
     }
 
     // Tells at which line of the sketch `dvg check` stops, and why.
@@ -215,7 +296,18 @@ impl<A: Allocator + Copy> Examined<'_, A> {
         )
     }
 
-    // Tells which commands take the input, in which nothing is wrong.
+    // Tells what is odd about the frames of a draft or of a sketch, if something is.
+    fn tell_remark(&self, out: &mut Text<A>) -> fmt::Result {
+        match (self.kind, self.answers.remark) {
+            (Kind::Draft | Kind::Sketch, Some(Remark { number, oddity })) => {
+                tell_line(out, number, self.line(number).0)?;
+                write!(out, "{oddity}\n")
+            }
+            _ => Ok(()),
+        }
+    }
+
+    // Tells which commands take the input, which they accept.
     fn tell_commands(&self, out: &mut Text<A>) -> fmt::Result {
         match self.kind {
             Kind::Words => {
@@ -232,7 +324,15 @@ impl<A: Allocator + Copy> Examined<'_, A> {
                 out,
                 "dvg play takes it; where there is no picture, dvg play --all shows why\n"
             ),
-            Kind::Log => write!(out, "dvg torn takes it, also with --moments\n"),
+            Kind::Log => {
+                if let Ok(verdict) = self.answers.judged {
+                    tell_verdict(out, verdict)?;
+                }
+                write!(
+                    out,
+                    "dvg torn says so; dvg torn --moments also asks if each run reads one frame\n"
+                )
+            }
             Kind::Other => Ok(()),
         }
     }
@@ -248,7 +348,7 @@ impl<A: Allocator + Copy> Examined<'_, A> {
         }
         let (line, small) = self.line(number);
         tell_line(out, number, line)?;
-        match (hint_of(small), text_look(self.text)) {
+        match (hint_of(small), text_look(self.small)) {
             ("", "") => write!(
                 out,
                 "no line of an input begins so: dvg help shows which there are\n"
@@ -258,10 +358,13 @@ impl<A: Allocator + Copy> Examined<'_, A> {
         }
     }
 
-    /// Tells all after the first line. Whatever is asked for comes from `alloc`.
+    /// Tells all but the last line. Whatever is asked for comes from `alloc`.
     pub(crate) fn tell(&self, alloc: A, out: &mut Text<A>) -> fmt::Result {
         if self.kind == Kind::Other {
             return self.tell_other(out);
+        }
+        if let Some(verdict) = self.torn() {
+            return self.tell_torn(out, verdict);
         }
         if let Some(fault) = self.fault() {
             return self.tell_fault(alloc, out, fault);
@@ -272,8 +375,16 @@ impl<A: Allocator + Copy> Examined<'_, A> {
         if let Some(place) = self.cut {
             return tell_cut(out, self.text, place);
         }
+        self.tell_remark(out)?;
         self.tell_commands(out)
     }
+}
+
+// Tells what `torn` writes of `verdict`.
+fn tell_verdict<A: Allocator>(out: &mut Text<A>, verdict: LogVerdict) -> fmt::Result {
+    let mut line = Line::new();
+    line.become_log_verdict(verdict);
+    out.add(line.as_bytes())
 }
 
 // Returns the number of the line that is shown of `fault`, if it has one.
@@ -306,9 +417,11 @@ fn tell_bytes<A: Allocator>(out: &mut Text<A>, bytes: &[u8]) -> fmt::Result {
     }
 }
 
-// Tells what was expected of a line in an offer, which begins with `word`.
-fn expect_operation<A: Allocator>(out: &mut Text<A>, word: &[u8]) -> fmt::Result {
+// Tells what was expected of a line in an offer, which begins with `word`. A list is left out if
+// `is_told`.
+fn expect_operation<A: Allocator>(out: &mut Text<A>, word: &[u8], is_told: bool) -> fmt::Result {
     match form_in(operations(), word) {
+        "" if is_told => Ok(()),
         "" => write!(
             out,
             "expected an operation or end: a line that begins with {}, end or #\n",
@@ -341,13 +454,12 @@ fn tell_refused<A: Allocator>(
     refused: &RefusedFrame<A>,
     text: &[u8],
 ) -> fmt::Result {
-    let Refusal { reason, .. } = &refused.refusal;
-    write!(out, "{reason}\n")?;
     tell_blamed(out, refused, text)?;
-    let Reason::Fault(fault) = reason else {
-        return Ok(());
-    };
-    let advice = advice_for(*fault, refused.back.is_some());
-    write!(out, "{}\n", advice.means)?;
-    write!(out, "do: {}\n", advice.cure)
+    let reason = &refused.refusal.reason;
+    if let Reason::Fault(fault) = reason {
+        let advice = advice_for(*fault, refused.back.is_some());
+        write!(out, "{}\n", advice.means)?;
+        write!(out, "do: {}\n", advice.cure)?;
+    }
+    write!(out, "{reason}\n")
 }

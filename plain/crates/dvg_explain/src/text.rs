@@ -17,6 +17,14 @@ impl<A: Allocator> Text<A> {
         }
     }
 
+    /// Adds `bytes`. Fails where memory is refused.
+    pub(crate) fn add(&mut self, bytes: &[u8]) -> fmt::Result {
+        match self.bytes.extend_from_slice(bytes) {
+            Ok(()) => Ok(()),
+            Err(_) => Err(fmt::Error),
+        }
+    }
+
     /// Returns the bytes of the text.
     pub(crate) fn into_bytes(self) -> Vec<u8, A> {
         self.bytes
@@ -25,9 +33,6 @@ impl<A: Allocator> Text<A> {
 
 impl<A: Allocator> fmt::Write for Text<A> {
     fn write_str(&mut self, part: &str) -> fmt::Result {
-        match self.bytes.extend_from_slice(part.as_bytes()) {
-            Ok(()) => Ok(()),
-            Err(_) => Err(fmt::Error),
-        }
+        self.add(part.as_bytes())
     }
 }

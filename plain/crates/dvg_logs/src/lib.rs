@@ -18,6 +18,6 @@ mod tears_moments;
 
 pub use dvg_print::{LogCounts, LogFinding, LogVerdict, MomentVerdict, Reading};
 pub use log_line::{LogLine, MOST_LINE_BYTES, read_log_line};
-pub use tears::torn;
+pub use tears::{judge_log, torn};
 pub use tears_all::torn_all;
 pub use tears_moments::torn_moments;

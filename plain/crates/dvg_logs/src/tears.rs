@@ -1,8 +1,10 @@
 //! The engine `torn`.
 use crate::half_lines::HalfLines;
 use crate::judging::judge_text;
+use crate::log_reading::{LogReading, LogStop};
 use dvg_io::{StreamFailed, ToolFault, Watched, write_lines};
 use dvg_print::{Line, LogVerdict};
+use dvg_read::TextFault;
 use std::io::{Read, Write};
 
 // Writes `verdict`, what is said of a log, to `writer`.
@@ -10,6 +12,29 @@ fn write_verdict<W: Write>(writer: &mut Watched<W>, verdict: LogVerdict) -> Resu
     let mut line = Line::new();
     line.become_log_verdict(verdict);
     write_lines(writer, line.as_bytes())
+}
+
+// Returns what is said of a log whose reading stops by `stop`.
+fn said(stop: LogStop<LogVerdict>) -> Result<LogVerdict, TextFault> {
+    match stop {
+        LogStop::Found(_, verdict) => Ok(verdict),
+        LogStop::Syntax(line) => Err(TextFault::Syntax(line)),
+        LogStop::TooLong => Err(TextFault::TooLong),
+    }
+}
+
+/// Returns what `torn` says of `text`, the whole text of a log, or its fault of the text. With a
+/// `base`, lines `wrote` have addresses of the processor.
+pub fn judge_log(text: &[u8], base: Option<u16>) -> Result<LogVerdict, TextFault> {
+    let mut reading = LogReading::new(HalfLines::new(), base);
+    match reading.take_piece(text) {
+        Ok(()) => {}
+        Err(stopped) => return said(stopped.stop),
+    }
+    match reading.finish() {
+        Ok(()) => Ok(reading.at_end()),
+        Err(stop) => said(stop),
+    }
 }
 
 /// Reads the text of a log from `reader`, of any length, up to the first line that is torn or at
