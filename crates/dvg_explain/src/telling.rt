@@ -9,7 +9,7 @@ use crate::hints::{begins_operation, hint_of, plain_hint};
 use crate::kind::Kind;
 use crate::lines::{before_line, first_said, is_unended, last_line, line_at, word_at};
 use crate::looks::{file_look, text_look};
-use crate::mistakes::mistake_in;
+use crate::mistakes::{Mistake, mistake_in};
 use crate::raw::{MOST_WORD_BYTES, is_text};
 use crate::remarks::Remark;
 use crate::sketch_line::explain_line;
@@ -204,31 +204,35 @@ impl<A: Allocator + Copy> Examined<'_, A> {
         }
     }
 
-    // Tells what is wrong with line `number`, where that is seen in it. `fault` is there. Returns
-    // whether something was told.
+    // Tells what is wrong with line `number`, where that is seen in it, and returns that. `fault` is
+    // there. Fails where memory is refused.
     fn tell_mistake(
         &self,
         alloc: A,
         out: &mut Text<A>,
         fault: TextFault,
         number: usize,
-    ) -> Result<bool, fmt::Error> {
+    ) -> Result<Option<Mistake<'_>>, fmt::Error> {
         let TextFault::Syntax(_) = fault else {
-            return Ok(false);
+            return Ok(None);
         };
-        match mistake_in(alloc, self.kind, self.text, self.small, number) {
-            Ok(Some(mistake)) => write!(out, "{mistake}\n")?,
-            Ok(None) => return Ok(false),
-            Err(_) => return Err(fmt::Error),
+        let Ok(found) = mistake_in(alloc, self.kind, self.text, self.small, number) else {
+            return Err(fmt::Error);
+        };
+        if let Some(mistake) = found {
+            write!(out, "{mistake}\n")?;
         }
-        Ok(true)
+        Ok(found)
     }
 
-    // Tells of `fault`, which is at line `number`.
+    // Tells of `fault`, which is at line `number`. Of a line that looks like none of its kind it
+    // isn't told what was expected.
     fn tell_at(&self, alloc: A, out: &mut Text<A>, fault: TextFault, number: usize) -> fmt::Result {
         tell_line(out, number, self.line(number).0)?;
-        let is_told = self.tell_mistake(alloc, out, fault, number)?;
-        self.expect(alloc, out, fault, number, is_told)?;
+        match self.tell_mistake(alloc, out, fault, number)? {
+            Some(Mistake::Look(_)) => {}
+            found => self.expect(alloc, out, fault, number, found.is_some())?,
+        }
         if is_unended(self.text, number) {
             write!(out, "{UNENDED}\n")?;
         }

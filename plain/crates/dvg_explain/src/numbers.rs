@@ -85,6 +85,13 @@ static TIMES: [Number; 1] = [Number {
     most: 9999,
 }];
 
+/// The number of an operation that names another. A name may stand there.
+static TARGET: [Number; 1] = [Number {
+    name: "N",
+    least: 0,
+    most: 65_535,
+}];
+
 /// What is wrong with the numbers of a line.
 #[derive(Clone, Copy)]
 pub(crate) enum WrongNumber<'a> {
@@ -115,6 +122,7 @@ fn numbers_of(word: &[u8]) -> &'static [Number] {
         b"labs" => LABS.as_slice(),
         b"vctr" => VCTR.as_slice(),
         b"svec" => SVEC.as_slice(),
+        b"call" | b"jump" => TARGET.as_slice(),
         b"tick" | b"strobe" | b"fetch" => TIMES.as_slice(),
         _ => &[],
     }
