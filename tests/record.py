@@ -2,10 +2,11 @@
 
 A part begins with `## CRATE`. Its next line is a checksum of all that decides what is said of the
 crate's texts: the texts, the crate and the crates that it stands on, but for lines that are
-comments, the logic of the kit, and the suite. The second has the seconds of processors that they took, and then comes a line of each text.
-It proves nothing: it spares to try again what was tried of the same sources. So in each commit a
-quarter of the crates is tried all the same, another one each time. Each run leaves what it was told
-in build/refused, a file for each crate, from where it is taken."""
+comments, the logic of the kit, and the suite. The second has the seconds of processors that they
+took, and then comes a line of each text. It proves nothing: it spares to try again what was tried
+of the same sources. So in each commit a quarter of the crates is tried all the same, another one
+each time. Each run leaves what it was told in build/refused, a file for each crate, from where it
+is taken."""
 
 import functools
 import hashlib

@@ -11,6 +11,22 @@ use strsim::jaro;
 /// and `return`.
 const ENOUGH: f64 = 0.8;
 
+// Whether no token of `forms` is more like `word` than `alike`. Returns `OutOfMemory` where an
+// allocation fails.
+fn is_most<A: Allocator + Copy>(
+    alloc: A,
+    forms: &[Form],
+    word: &str,
+    alike: f64,
+) -> Result<bool, OutOfMemory> {
+    for form in forms {
+        if jaro(alloc, word, form.token)? > alike {
+            return Ok(false);
+        }
+    }
+    Ok(true)
+}
+
 /// Returns the token of `forms` that `word`, in small letters, is most like. It is empty where
 /// `word` is like none. Returns `OutOfMemory` where an allocation fails.
 pub(crate) fn token_like<A: Allocator + Copy>(
@@ -21,14 +37,11 @@ pub(crate) fn token_like<A: Allocator + Copy>(
     let Ok(word) = from_utf8(word) else {
         return Ok("");
     };
-    let mut most = ENOUGH;
-    let mut found = "";
     for form in forms {
         let alike = jaro(alloc, word, form.token)?;
-        if alike > most {
-            most = alike;
-            found = form.token;
+        if alike > ENOUGH && is_most(alloc, forms, word, alike)? {
+            return Ok(form.token);
         }
     }
-    Ok(found)
+    Ok("")
 }

@@ -1,5 +1,5 @@
-//! What is odd about frames that the check accepts. This is tested: nothing is proved of it but that
-//! it can't panic, and comes to an end.
+//! What is odd about frames that the check accepts. This is tested: nothing is proved of it but
+//! that it can't panic, and comes to an end.
 use dvg_code::OutOfMemory;
 use dvg_driver::Action;
 use dvg_frame::{Draft, MAX_OPS, Op, OpKind};
@@ -38,7 +38,7 @@ impl fmt::Display for Oddity {
             Oddity::Empty =>
                 "the frame that begins here draws no stroke: it needs a vector with a Z above 0",
             Oddity::Dark => {
-                "the frame that begins here draws nothing on the screen, where X and Y are 0 to 1023"
+                "the frame that begins here draws nothing on the screen: X and Y 0 to 1023"
             }
         })
     }

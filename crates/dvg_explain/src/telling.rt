@@ -204,8 +204,8 @@ impl<A: Allocator + Copy> Examined<'_, A> {
         }
     }
 
-    // Tells what is wrong with line `number`, where that is seen in it, and returns that. `fault` is
-    // there. Fails where memory is refused.
+    // Tells what is wrong with line `number`, where that is seen in it, and returns that. `fault`
+    // is there. Fails where memory is refused.
     fn tell_mistake(
         &self,
         alloc: A,
