@@ -2,7 +2,7 @@
 // what to do. It is taken out of the plain form of dvg_explain.
 import { readFileSync } from 'node:fs';
 
-const SOURCE = new URL('../plain/crates/dvg_explain/src/faults.rs', import.meta.url);
+const SOURCE = new URL('../plain/crates/dvg_explain/src/lib.rs', import.meta.url);
 const ADVICE = /means: "([^"]*)",\s*cure: "([^"]*)"/g;
 
 // Two sentences for each fault, by their numbers from 1 on; and after all of them those of a loop

@@ -1,11 +1,14 @@
 //! The eraser: takes the contracts away from Rattle sources. What is left is Rust, over plain_std.
 //!
 //! ```text
-//! erase FROM TO CRATE..            writes TO/CRATE/src/*.rs of FROM/CRATE/src/*.rt
+//! erase FROM TO CRATE..            writes TO/CRATE/src/lib.rs of FROM/CRATE/src/*.rt
 //! erase --check FROM TO CRATE..    compares instead, and names each file that differs: status 1
 //! ```
 //!
-//! It does three things, and refuses what it doesn't know: status 2.
+//! Each crate becomes one file: `lib.rs`, or `main.rs` of a program. A file beside that is removed,
+//! or named by `--check`.
+//!
+//! It does four things, and refuses what it doesn't know: status 2.
 //!
 //! 1. It takes away: `ghost` items, fields and uses; the clauses `requires` and `ensures`; `impl
 //!    Model` and the use of `Model`; `tactic` attributes; `Drop` among derives; `derive_where` with
@@ -18,16 +21,19 @@
 //!    Rust's slices have without one, as `to_ascii_lowercase_in`; `clone`, which returns a `Result`
 //!    in the sources, as `try_clone`; and `step` as `_step`, where a loop's number has this name,
 //!    or any other, for its proof alone.
-//! 3. It puts in: the lines of `HEAD` at the head of a crate; `PRELUDE` in a file that names one of
-//!    its words; a `use` of the `MACROS` that a file calls; `Clone` and `Debug` at each type of
-//!    `COPIED` that derives them not, as Rattle has no copy that takes memory without a refusal;
+//! 3. It puts in: the lines of `HEAD` at the head of a crate; `PRELUDE` in a module that names one
+//!    of its words; a `use` of the `MACROS` that a module calls; `Clone` and `Debug` at each type
+//!    of `COPIED` that derives them not, as Rattle has no copy that takes memory without a refusal;
 //!    `Hash` where `Eq` is derived; what `KEPT` has of serde at each of its types;
 //!    `non_exhaustive` at each of `GROWING`; `must_use` at each public function that may refuse by
 //!    an `Option`, or by a `bool` and is one of `REFUSING`; and `BESIDE` at the end of a library
 //!    that has a file `rust.rs`, by hand, beside its sources.
+//! 4. It joins: where the sources say `mod NAME;`, it writes `mod NAME {`, what is left of that
+//!    module's source, and `}`. This source is `NAME.rt` or `NAME/mod.rt`, and its own modules are
+//!    in the folder `NAME`. No line is indented for that, and no source may be left over.
 //!
 //! All else stays as it is, letter by letter, with its comments.
-use std::collections::BTreeSet;
+use std::collections::{BTreeMap, BTreeSet};
 use std::path::{Path, PathBuf};
 use std::process::ExitCode;
 use std::{env, fs};
@@ -38,7 +44,7 @@ const HEAD: &str = "#![no_std]\n\nextern crate plain_std as std;\n\n";
 /// What stands at the head of a program, which keeps Rust's own std.
 const PROGRAM_HEAD: &str = "extern crate plain_std as std;\n\n";
 
-/// What stands in a file that names one of `PRELUDE_WORDS`.
+/// What stands in a module that names one of `PRELUDE_WORDS`.
 const PRELUDE: &str = "use std::prelude::*;\n\n";
 
 /// The words that a Rattle source has without a `use`, and that mean something else in Rust.
@@ -173,7 +179,7 @@ const KEPT_ATTRIBUTES: [&str; 6] = ["error", "from", "inline", "must_use", "repr
 /// Words of Rattle that must not be left over.
 const RATTLE_WORDS: [&str; 5] = ["Model", "decreases", "invariant", "proof", "tactic"];
 
-/// The modules that have no code, each in a file of its own.
+/// The modules that have no code.
 const ERASED_MODULES: [&str; 2] = ["laws", "tests"];
 
 /// Why a source is refused, and at which byte.
@@ -258,6 +264,14 @@ fn token(text: &[u8], from: usize) -> Result<(Kind, usize), Refused> {
         }
         _ => Ok((Kind::Mark, from + 1)),
     }
+}
+
+/// Whether a text is `mod NAME;`, where `NAME` is any name.
+fn is_module(text: &[u8]) -> bool {
+    let name = text
+        .strip_prefix(b"mod ")
+        .and_then(|text| text.strip_suffix(b";"));
+    name.is_some_and(|name| !name.is_empty() && name.iter().all(|byte| is_of_word(*byte)))
 }
 
 /// The place after blanks.
@@ -483,16 +497,19 @@ impl<'a> Eraser<'a> {
         Ok(())
     }
 
-    /// A module. One of laws has no code, and nor has that of another crate.
-    fn module(&mut self, end: usize) {
+    /// A module, or a visibility. A module of laws has no code, and nor has that of another crate.
+    fn module(&mut self, end: usize) -> Result<(), Refused> {
         let mut lines = self.text[self.at..].split_inclusive(|byte| *byte == b';');
         let line = lines.next().unwrap_or_default();
         let is_theirs = line.starts_with(b"pub use ") && line.ends_with(b"::laws;");
         if is_theirs || line == b"pub mod laws;" || line == b"mod laws;" {
             self.drop_line(self.at + line.len());
+        } else if self.slice(self.at, end) == "mod" && !is_module(line) {
+            return self.refuse("a module that isn't in a file of its own");
         } else {
             self.copy_word(end);
         }
+        Ok(())
     }
 
     /// A `use`. That of `Model` goes, and that of laws.
@@ -700,7 +717,7 @@ impl<'a> Eraser<'a> {
             "ghost" => self.drop_ghost()?,
             "requires" | "ensures" => self.drop_clauses()?,
             "impl" => self.implementation(end)?,
-            "pub" | "mod" => self.module(end),
+            "pub" | "mod" => self.module(end)?,
             "use" => self.usage(end),
             "fn" => self.function(end)?,
             "struct" | "enum" => self.structure(end),
@@ -875,7 +892,7 @@ impl<'a> Left<'a> {
 
 // --- What is put in ---
 
-/// What a file is to its crate.
+/// What a source is to its crate.
 #[derive(Clone, Copy, Debug, PartialEq, Eq)]
 enum Role {
     Library,
@@ -884,14 +901,6 @@ enum Role {
 }
 
 impl Role {
-    fn of(stem: &str) -> Role {
-        match stem {
-            "lib" => Role::Library,
-            "main" => Role::Program,
-            _ => Role::Module,
-        }
-    }
-
     fn head(self) -> &'static str {
         match self {
             Role::Library => HEAD,
@@ -929,7 +938,7 @@ fn kept(head: &str) -> String {
     }
 }
 
-/// The line that brings in the macros that a file calls.
+/// The line that brings in the macros that a module calls.
 fn use_of_macros(words: &BTreeSet<&str>) -> String {
     let called: Vec<&str> = MACROS
         .into_iter()
@@ -942,7 +951,7 @@ fn use_of_macros(words: &BTreeSet<&str>) -> String {
     }
 }
 
-/// What is left of a source. Lines are put in after the comments of the file itself.
+/// What is left of a source. Lines are put in after the comments of the source itself.
 fn erased(text: &str, role: Role) -> Result<String, Refused> {
     let (body, words) = Eraser::new(text).run()?;
     let body = Left::new(text, &body)?.without_names();
@@ -960,6 +969,101 @@ fn erased(text: &str, role: Role) -> Result<String, Refused> {
         role.head(),
         rest.trim_start_matches('\n')
     ))
+}
+
+// --- Modules ---
+
+/// The modules that a text names, and where the semicolon after each name stands.
+fn modules_of(text: &str) -> Result<Vec<(&str, usize)>, Refused> {
+    let words = words_of_code(text)?;
+    let modules = words.windows(2).filter_map(|words| {
+        let [(at, "mod"), (from, name)] = words else {
+            return None;
+        };
+        let end = from + name.len();
+        is_module(text.as_bytes().get(*at..=end)?).then_some((*name, end))
+    });
+    Ok(modules.collect())
+}
+
+/// The sources of a crate that aren't written yet: the text of each by its name in their folder,
+/// without the ending.
+struct Sources {
+    folder: PathBuf,
+    texts: BTreeMap<String, String>,
+}
+
+impl Sources {
+    fn read(folder: &Path) -> Result<Sources, String> {
+        let mut texts = BTreeMap::new();
+        for file in files_of(folder)? {
+            let name = name_within(&file, folder)?;
+            if !ERASED_MODULES.contains(&name.rsplit('/').next().unwrap_or_default()) {
+                let text = fs::read_to_string(&file);
+                texts.insert(name, text.map_err(|e| format!("{}: {e}", file.display()))?);
+            }
+        }
+        let folder = folder.to_owned();
+        Ok(Sources { folder, texts })
+    }
+
+    /// A message about a source.
+    fn told(&self, name: &str, why: &str) -> String {
+        format!("{}{why}", self.folder.join(name).with_extension("rt").display())
+    }
+
+    /// The name of the source that is a module's.
+    fn of_module(&self, path: &str) -> Result<String, String> {
+        let names = [path.to_owned(), format!("{path}/mod")];
+        let mut found = names.into_iter().filter(|name| self.texts.contains_key(name));
+        match (found.next(), found.next()) {
+            (Some(name), None) => Ok(name),
+            (None, _) => Err(self.told(path, ": no source of this module, or it is named twice")),
+            (Some(_), Some(_)) => Err(self.told(path, ": two sources of this module")),
+        }
+    }
+
+    /// What is left of a source, with its modules in it. Their sources are in the folder `within`,
+    /// which ends with a slash or is the crate's own, "".
+    fn joined(&mut self, name: &str, role: Role, within: &str) -> Result<String, String> {
+        let source = self.texts.remove(name).unwrap_or_default();
+        let told = |refused: Refused| {
+            let place = format!(":{}: {}", line_of(&source, refused.at), refused.why);
+            self.told(name, &place)
+        };
+        let plain = erased(&source, role).map_err(told)?;
+        let modules = modules_of(&plain).map_err(told)?;
+        let mut joined = String::new();
+        let mut at = 0;
+        for (module, end) in modules {
+            let path = format!("{within}{module}");
+            let text = self.joined(&self.of_module(&path)?, Role::Module, &format!("{path}/"))?;
+            joined += &format!("{} {{\n{text}}}", &plain[at..end]);
+            at = end + 1;
+        }
+        // The brace after a module is on a line of its own.
+        let line_end = if plain.is_empty() || plain.ends_with('\n') { "" } else { "\n" };
+        Ok(joined + &plain[at..] + line_end)
+    }
+
+    /// The file that these sources become: its name, and its text. `beside` is the file `rust.rs`
+    /// that lies beside it, if there is one.
+    fn into_file(mut self, beside: Option<&str>) -> Result<(&'static str, String), String> {
+        let roots = (self.texts.contains_key("lib"), self.texts.contains_key("main"));
+        let (name, role, file) = match roots {
+            (true, false) => ("lib", Role::Library, "lib.rs"),
+            (false, true) => ("main", Role::Program, "main.rs"),
+            _ => return Err(self.told("lib", ": one of this and main.rt must be there")),
+        };
+        let mut plain = self.joined(name, role, "")?;
+        if let (Some(beside), Role::Library) = (beside, role) {
+            plain.push_str(&end_by(beside));
+        }
+        match self.texts.keys().next() {
+            Some(name) => Err(self.told(name, ": a source of which no module has the name")),
+            None => Ok((file, plain)),
+        }
+    }
 }
 
 // --- Files ---
@@ -980,31 +1084,23 @@ fn files_of(folder: &Path) -> Result<Vec<PathBuf>, String> {
     Ok(files)
 }
 
-/// The name of a file within a folder, with another ending.
-fn name_within(file: &Path, folder: &Path, ending: &str) -> Result<String, String> {
-    let why = || format!("{}: no text", file.display());
-    let within = file.strip_prefix(folder).map_err(|_| why())?;
-    let name = within.with_extension(ending);
-    name.to_str().map(str::to_owned).ok_or_else(why)
+/// The name of a source within a folder, without its ending.
+fn name_within(file: &Path, folder: &Path) -> Result<String, String> {
+    let within = file.strip_prefix(folder).ok().and_then(Path::to_str);
+    let name = within.and_then(|name| name.strip_suffix(".rt"));
+    let why = || format!("{}: no source, whose name ends with .rt", file.display());
+    name.map(str::to_owned).ok_or_else(why)
 }
 
-/// The line of a source at which a byte stands.
+/// The line of a text at which a byte stands.
 fn line_of(text: &str, at: usize) -> usize {
     1 + text.bytes().take(at).filter(|byte| *byte == b'\n').count()
 }
 
-/// The name of the file of a source, without its ending.
-fn stem_of(file: &Path) -> Result<&str, String> {
-    match (
-        file.extension().and_then(|end| end.to_str()),
-        file.file_stem(),
-    ) {
-        (Some("rt"), Some(stem)) => stem.to_str().ok_or_else(|| "no text".to_owned()),
-        _ => Err(format!(
-            "{}: no source, whose name ends with .rt",
-            file.display()
-        )),
-    }
+/// The first line in which two texts differ.
+fn differing_line(one: &str, other: &str) -> usize {
+    let lines = one.split('\n').zip(other.split('\n'));
+    1 + lines.take_while(|(one, other)| one == other).count()
 }
 
 /// What stands at the end of a library, beside whose sources this file lies.
@@ -1013,73 +1109,44 @@ fn end_by(beside: &str) -> String {
     format!("{BESIDE}{}", if has_public { USE_OF_BESIDE } else { "" })
 }
 
-/// The files that a crate's sources become: the name of each, and its text. `beside` is the file
-/// `rust.rs` that lies beside them, if there is one.
-fn erased_crate(folder: &Path, beside: Option<&str>) -> Result<Vec<(String, String)>, String> {
-    let mut made = Vec::new();
-    for file in files_of(folder)? {
-        let stem = stem_of(&file)?;
-        if ERASED_MODULES.contains(&stem) {
-            continue;
-        }
-        let text = fs::read_to_string(&file).map_err(|e| format!("{}: {e}", file.display()))?;
-        let mut plain = erased(&text, Role::of(stem)).map_err(|refused| {
-            format!(
-                "{}:{}: {}",
-                file.display(),
-                line_of(&text, refused.at),
-                refused.why
-            )
-        })?;
-        if let (Some(beside), "lib") = (beside, stem) {
-            plain.push_str(&end_by(beside));
-        }
-        made.push((name_within(&file, folder, "rs")?, plain));
-    }
-    Ok(made)
-}
-
-/// The files of a folder that stand for no source.
-fn strays(folder: &Path, made: &[(String, String)]) -> Vec<PathBuf> {
-    let is_made = |file: &Path| made.iter().any(|(name, _)| file == folder.join(name));
-    files_of(folder)
-        .unwrap_or_default()
+/// The files of a folder that are too many, beside the one of this name.
+fn strays(folder: &Path, name: &str) -> Vec<PathBuf> {
+    let files = files_of(folder).unwrap_or_default();
+    files
         .into_iter()
-        .filter(|file| !is_made(file))
+        .filter(|file| *file != folder.join(name))
         .collect()
 }
 
-/// Says which files of a folder aren't those that were made. Answers whether there are any.
-fn differs(folder: &Path, made: &[(String, String)]) -> bool {
-    let mut found = false;
-    for (name, text) in made {
-        let path = folder.join(name);
-        if fs::read_to_string(&path).ok().as_deref() != Some(text) {
-            println!("{} isn't what is left of its source", path.display());
-            found = true;
-        }
+/// Says which files of a folder aren't the one that was made. Answers whether there are any.
+fn differs(folder: &Path, name: &str, text: &str) -> bool {
+    let path = folder.join(name);
+    let strays = strays(folder, name);
+    for path in &strays {
+        println!("{} stands for no crate", path.display());
     }
-    for path in strays(folder, made) {
-        println!("{} stands for no source", path.display());
-        found = true;
+    let found = fs::read_to_string(&path).ok();
+    if found.as_deref() == Some(text) {
+        return !strays.is_empty();
     }
-    found
+    let line = differing_line(&found.unwrap_or_default(), text);
+    println!("{}:{line}: this isn't what is left of the sources", path.display());
+    true
 }
 
-/// Writes the files that were made, but for those that are so already, and removes those that stand
-/// for no source.
-fn write(folder: &Path, made: &[(String, String)]) -> Result<(), String> {
+/// Writes the file that was made, if it isn't so already, and removes those that are too many, with
+/// their folders.
+fn write(folder: &Path, name: &str, text: &str) -> Result<(), String> {
     let why = |error| format!("{}: {error}", folder.display());
+    let path = folder.join(name);
     fs::create_dir_all(folder).map_err(why)?;
-    for (name, text) in made {
-        let path = folder.join(name);
-        if fs::read_to_string(&path).ok().as_deref() != Some(text) {
-            fs::create_dir_all(path.parent().unwrap_or(folder)).map_err(why)?;
-            fs::write(path, text).map_err(why)?;
-        }
+    if fs::read_to_string(&path).ok().as_deref() != Some(text) {
+        fs::write(path, text).map_err(why)?;
     }
-    for path in strays(folder, made) {
-        fs::remove_file(path).map_err(why)?;
+    for path in strays(folder, name) {
+        fs::remove_file(&path).map_err(why)?;
+        // One in which there is something else stays.
+        let _ = path.parent().map(fs::remove_dir);
     }
     Ok(())
 }
@@ -1098,11 +1165,12 @@ fn run(words: &[String]) -> Result<bool, String> {
         let plain = Path::new(to).join(name);
         let folder = plain.join("src");
         let beside = fs::read_to_string(plain.join("rust.rs")).ok();
-        let made = erased_crate(&Path::new(from).join(name).join("src"), beside.as_deref())?;
+        let sources = Sources::read(&Path::new(from).join(name).join("src"))?;
+        let (file, text) = sources.into_file(beside.as_deref())?;
         if checks {
-            is_right &= !differs(&folder, &made);
+            is_right &= !differs(&folder, file, &text);
         } else {
-            write(&folder, &made)?;
+            write(&folder, file, &text)?;
         }
     }
     Ok(is_right)
@@ -1122,7 +1190,7 @@ fn main() -> ExitCode {
 
 #[cfg(test)]
 mod tests {
-    use super::{Role, SERDE, end_by, erased};
+    use super::{Role, SERDE, Sources, differing_line, end_by, erased};
 
     /// What is left of a module's source is this.
     #[track_caller]
@@ -1141,6 +1209,20 @@ mod tests {
     #[track_caller]
     fn stays(source: &str) {
         leaves(source, source);
+    }
+
+    /// The file of a crate with these sources, each with its name.
+    fn file_of(sources: &[(&str, &str)]) -> Result<(&'static str, String), String> {
+        let texts = sources.iter().map(|(name, text)| (name.to_string(), text.to_string()));
+        let (folder, texts) = ("src".into(), texts.collect());
+        Sources { folder, texts }.into_file(None)
+    }
+
+    /// A crate is refused for its sources: so its message begins.
+    #[track_caller]
+    fn refuses_crate(sources: &[(&str, &str)], why: &str) {
+        let told = file_of(sources).expect_err("it is refused");
+        assert!(told.starts_with(why), "{told}");
     }
 
     #[test]
@@ -1386,6 +1468,45 @@ mod tests {
         );
         stays("fn f() {\n    for _i in 0..2 {}\n    g(\"for i in 2\")\n}\nimpl T for U {}\n");
         stays("fn f() {\n    for i in 0..2 { g(\"{i}\") }\n}\n");
+    }
+
+    #[test]
+    fn modules_are_joined() {
+        let library = [
+            ("lib", "//! L.\n\n/// A.\npub mod a;\nmod b; // B.\n\npub use a::A;\n"),
+            ("a", "//! Of A.\n\npub struct A(Vec<u8>);\n"),
+            ("b/mod", "mod c;\nfn g() {}\n"),
+            ("b/c", "const C: &str = \"mod d;\"; // mod e;"),
+        ];
+        let wanted = "//! L.\n#![no_std]\n\nextern crate plain_std as std;\n\n\
+            /// A.\npub mod a {\n//! Of A.\nuse std::prelude::*;\n\npub struct A(Vec<u8>);\n}\n\
+            mod b {\nmod c {\nconst C: &str = \"mod d;\"; // mod e;\n}\nfn g() {}\n} // B.\n\n\
+            pub use a::A;\n";
+        assert_eq!(file_of(&library), Ok(("lib.rs", wanted.to_owned())));
+        let wanted = "extern crate plain_std as std;\n\nmod a {\n}\n".to_owned();
+        assert_eq!(file_of(&[("main", "mod a;\n"), ("a", "")]), Ok(("main.rs", wanted)));
+    }
+
+    #[test]
+    fn modules_with_other_sources_are_refused() {
+        let (lib, one) = (("lib", "mod a;\n"), ("a", "fn f() {}\n"));
+        refuses_crate(&[lib], "src/a.rt: no source of this module");
+        refuses_crate(&[("lib", "mod a;\nmod a;\n"), one], "src/a.rt: no source of this module");
+        refuses_crate(&[lib, one, ("a/mod", "")], "src/a.rt: two sources of this module");
+        refuses_crate(&[lib, one, ("a/b", "")], "src/a/b.rt: a source of which no module");
+        refuses_crate(&[lib, one, ("main", "")], "src/lib.rt: one of this and main.rt");
+        refuses_crate(&[one], "src/lib.rt: one of this and main.rt");
+        refuses_crate(&[lib, ("a", "\n\ninvariant\n")], "src/a.rt:3: the word 'invariant'");
+        refuses_crate(&[lib, ("a/mod", "mod b;"), ("b", "")], "src/a/b.rt: no source");
+        refuses("pub mod a {\n}\n", "mod a");
+        refuses("mod a\n;\n", "mod a");
+    }
+
+    #[test]
+    fn what_differs_has_a_line() {
+        assert_eq!(differing_line("a\nb\nc\n", "a\nc\n"), 2);
+        assert_eq!(differing_line("", "a\n"), 1);
+        assert_eq!(differing_line("a\n", "a\nb\n"), 2);
     }
 
     #[test]

@@ -2,13 +2,17 @@
 
     python3 tests/parts/plain/tokens.py CRATES PLAIN NAME..
 
-CRATES/NAME/src/*.rt are sources with contracts, and PLAIN/NAME/src/*.rs what is left of them. The
-code of both is cut into tokens. Those of a source without its contracts, and with the few forms
-that are written otherwise, must be those of the plain file without the lines that are put in: all
-of them, in the same order. Each comment of the plain file must stand in the source, in the same
-order. At the head of each crate stand the lines that must stand there.
+CRATES/NAME/src/*.rt are sources with contracts, and PLAIN/NAME/src/lib.rs or main.rs is what is
+left of them. It is cut into modules, as if each had a file of its own: what stands in the braces of
+`mod NAME {` is compared with the source NAME.rt or NAME/mod.rt, and what stands around it with the
+source that says `mod NAME;` there. No module may be missing or too many, and no file.
 
-Each file that differs is named, with the first place. Status 1 if there is one.
+The code of both is cut into tokens. Those of a source without its contracts, and with the few forms
+that are written otherwise, must be those of the plain module without the lines that are put in: all
+of them, in the same order. Each comment of the plain module must stand in the source, in the same
+order. At the head of each crate stand the lines that must stand there, and in no other module.
+
+Each module that differs is named, with the first place. Status 1 if there is one.
 """
 
 import itertools
@@ -271,22 +275,23 @@ class Source:
         return name in code or self.tokens.count(name) <= self.left.count(name)
 
 
-def without_added_lines(text, stem, beside):
-    """A plain file without the lines that are put in, and what is wrong with these."""
+def without_added_lines(text, name, beside):
+    """A plain module without the lines that are put in, and what is wrong with these. The file
+    `beside` counts at the root of a library alone."""
     lines = text.split("\n")
-    if beside.exists():
+    if name == "lib" and beside.exists():
         items = re.search("^pub ", beside.read_text(encoding="utf-8"), re.MULTILINE)
         wanted = BESIDE_WITH_ITEMS if items else BESIDE
         if lines[-len(wanted) :] != wanted:
             return text, "it doesn't end with what names the file beside it"
         del lines[-len(wanted) :]
-    head = {"lib": [NO_STD, EXTERN], "main": [EXTERN]}.get(stem, [])
+    head = {"lib": [NO_STD, EXTERN], "main": [EXTERN]}.get(name, [])
     found = [line for line in lines if line in (NO_STD, EXTERN)]
     wrong = None if found == head else f"the head is {found}, not {head}"
     added = {NO_STD, EXTERN, PRELUDE}
     kept = []
     for line in lines:
-        is_runtime = stem == "main" and RUNTIME.fullmatch(line.strip())
+        is_runtime = name == "main" and RUNTIME.fullmatch(line.strip())
         if line not in added and not MACROS.fullmatch(line) and not is_runtime:
             kept.append(line)
     return "\n".join(kept), wrong
@@ -309,14 +314,13 @@ def stray_comment(comments, of_source):
     return next((comment for comment in comments if comment not in rest), None)
 
 
-def fault_of(source, plain):
-    """What is wrong with a plain file, or nothing."""
-    beside = plain.parent.with_name("rust.rs" if plain.name == "lib.rs" else "no such file")
-    text, wrong = without_added_lines(plain.read_text(encoding="utf-8"), plain.stem, beside)
+def fault_of(source, name, plain, beside):
+    """What is wrong with the text of a plain module, or nothing."""
+    text, wrong = without_added_lines(plain, name, beside)
     if wrong:
         return wrong
     tokens, comments = cut(text)
-    of_source, comments_of_source = cut(source.read_text(encoding="utf-8"))
+    of_source, comments_of_source = cut(source)
     difference = first_difference(Source(of_source).code(), tokens)
     if difference:
         return difference
@@ -324,33 +328,76 @@ def fault_of(source, plain):
     return f"a comment that isn't in the source: {comment}" if comment else None
 
 
-def files_of(folder, left_out=frozenset()):
-    """The files in a folder, by their names within it, without an ending, but those left out."""
-    files = (path for path in folder.rglob("*") if path.is_file())
-    return {
-        str(path.relative_to(folder).with_suffix("")): path
-        for path in files
-        if path.stem not in left_out
-    }
+def modules_of(text, root):
+    """The modules of a plain file, by their paths, and its root by that name: the text of each as
+    if it had a file of its own, where `mod NAME;` stands for a module in braces. And how many of
+    the modules have no end."""
+    made, opened = {root: ""}, [(root, 0)]
+    depth, at, before = 0, 0, ["", ""]
+    for match in TOKEN.finditer(text):
+        token = match.group()
+        path, outside = opened[-1]
+        if token == "{" and before[0] == "mod":
+            made[path] += text[at : match.start()] + ";"
+            inner = before[1] if path == root else f"{path}/{before[1]}"
+            made[inner] = ""
+            opened.append((inner, depth))
+            at = match.end()
+        elif token == "}" and path != root and depth == outside + 1:
+            made[path] += text[at : match.start()]
+            opened.pop()
+            at = match.end()
+        depth += (token == "{") - (token == "}")
+        if not token.startswith("//"):
+            before = [before[1], token]
+    made[opened[-1][0]] += text[at:]
+    return made, len(opened) - 1
+
+
+def sources_of(folder):
+    """The sources of a crate that have code, each by its name in this folder. The root of a folder
+    has the name of that."""
+    found = {}
+    for path in folder.rglob("*"):
+        name = str(path.relative_to(folder).with_suffix("")).removesuffix("/mod")
+        if path.is_file() and path.stem not in MODULES_WITHOUT_CODE:
+            if name in found:
+                raise SystemExit(f"{path}: another source of the same module")
+            found[name] = path.read_text(encoding="utf-8")
+    return found
+
+
+def faults_of(crate, sources, plain):
+    """What is wrong with the plain form of a crate, and the texts of its modules. `crate` is its
+    name, `sources` are the texts of its sources, and `plain` is the folder of its plain form."""
+    root = "main" if "main" in sources else "lib"
+    file = plain / "src" / f"{root}.rs"
+    files = {path for path in (plain / "src").rglob("*") if path.is_file()}
+    strays = sorted(path.relative_to(plain) for path in files - {file})
+    faults = [f"{crate}/{path}: a file that is too many" for path in strays]
+    text = file.read_text(encoding="utf-8") if file in files else ""
+    made, unended = modules_of(text, root)
+    if unended:
+        faults.append(f"{crate}/src/{file.name}: {unended} modules without an end")
+    for name in sorted(sources.keys() ^ made.keys()):
+        faults.append(f"{crate}/src/{name}: one of the source and the plain module isn't there")
+    for name in sorted(sources.keys() & made.keys()):
+        fault = fault_of(sources[name], name, made[name], plain / "rust.rs")
+        faults += [f"{crate}/src/{name}: {fault}"] if fault else []
+    return faults, made.values()
 
 
 def main(crates, plain, names):
-    files = faults = tokens = 0
+    modules = faults = tokens = 0
     for name in names:
-        sources = files_of(Path(crates, name, "src"), MODULES_WITHOUT_CODE)
-        made = files_of(Path(plain, name, "src"))
-        for stem in sorted(sources.keys() ^ made.keys()):
-            print(f"{name}/src/{stem}: one of the source and the plain file isn't there")
-            faults += 1
-        for stem in sorted(sources.keys() & made.keys()):
-            fault = fault_of(sources[stem], made[stem])
-            files += 1
-            tokens += len(cut(made[stem].read_text(encoding="utf-8"))[0])
-            if fault:
-                print(f"{name}/src/{stem}.rs: {fault}")
-                faults += 1
-    print(f"{files} files, {tokens} tokens of plain code")
-    return 1 if faults or not files else 0
+        sources = sources_of(Path(crates, name, "src"))
+        found, texts = faults_of(name, sources, Path(plain, name))
+        print("".join(f"{fault}\n" for fault in found), end="")
+        faults += len(found)
+        modules += len(texts)
+        tokens += sum(len(cut(text)[0]) for text in texts)
+    print(f"{modules} modules, {tokens} tokens of plain code")
+    return 1 if faults or not modules else 0
 
 
 if __name__ == "__main__":

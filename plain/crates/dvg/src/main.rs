@@ -5,9 +5,204 @@ use std::prelude::*;
 
 use std::{eprint, eprintln};
 
-mod files;
-mod kept;
-mod told;
+mod files {
+//! Arguments that are perhaps the names of files.
+use arrayvec::ArrayVec;
+use clap::Error;
+use std::fmt::{self, Write};
+
+/// How the refusal of an argument begins that no subcommand takes. The argument follows.
+const UNEXPECTED: &[u8] = b"error: unexpected argument '";
+
+/// The first bytes of a text: as many as tell how an argument begins.
+struct Front {
+    bytes: ArrayVec<u8, 32>,
+}
+
+impl fmt::Write for Front {
+    fn write_str(&mut self, part: &str) -> fmt::Result {
+        for byte in part.as_bytes() {
+            if self.bytes.try_push(*byte).is_err() {
+                return Ok(());
+            }
+        }
+        Ok(())
+    }
+}
+
+/// Returns whether `error` is of an argument that is no option, such as the name of a file.
+pub(crate) fn is_of_a_word(error: &Error) -> bool {
+    let mut front = Front {
+        bytes: ArrayVec::new(),
+    };
+    if write!(front, "{error}").is_err() {
+        return false;
+    }
+    match front.bytes.as_slice().strip_prefix(UNEXPECTED) {
+        Some([first, ..]) => *first != b'-' && *first != b'\'',
+        _ => false,
+    }
+}
+}
+mod kept {
+//! A reader that keeps what another one gave last, so that a line of it can be shown.
+use std::prelude::*;
+
+use std::alloc::Global;
+use std::io::{Read, Result};
+
+/// A reader that gives what another one gives, and keeps the last bytes of it: those of the last
+/// read, and before them those of the line that had not ended by then.
+pub struct Kept<R> {
+    stream: R,
+    bytes: Vec<u8>,
+    // Whether memory for the bytes was refused, so that none are kept any more.
+    is_lost: bool,
+    has_ended: bool,
+}
+
+impl<R> Kept<R> {
+    /// Returns a reader that gives what `stream` gives. What it keeps is in memory of `alloc`.
+    pub fn new(alloc: Global, stream: R) -> Kept<R> {
+        Kept {
+            stream,
+            bytes: Vec::new(alloc),
+            is_lost: false,
+            has_ended: false,
+        }
+    }
+
+    /// Returns the bytes that are kept, from the beginning of a line on. There are none if memory
+    /// for them was refused.
+    pub fn bytes(&self) -> &[u8] {
+        self.bytes.as_slice()
+    }
+
+    /// Whether the last read gave nothing, so that the input ends after these bytes.
+    pub fn has_ended(&self) -> bool {
+        self.has_ended
+    }
+
+    // Forgets the lines that have ended.
+    fn forget_lines(&mut self) {
+        let mut bytes = self.bytes.iter().rev();
+        if let Some(unended) = bytes.position(|byte| *byte == b'\n') {
+            let ended = self.bytes.len().saturating_sub(unended);
+            self.bytes.as_mut_slice().copy_within(ended.., 0);
+            self.bytes.truncate(unended);
+        }
+    }
+
+    // Keeps `piece`, which the last read gave.
+    fn keep(&mut self, piece: &[u8]) {
+        self.has_ended = piece.is_empty();
+        if self.is_lost || self.has_ended {
+            return;
+        }
+        self.forget_lines();
+        if self.bytes.extend_from_slice(piece).is_err() {
+            self.is_lost = true;
+            self.bytes.clear();
+        }
+    }
+}
+
+impl<R: Read> Read for Kept<R> {
+    fn read(&mut self, buf: &mut [u8]) -> Result<usize> {
+        let count = self.stream.read(buf)?;
+        self.keep(&buf[..count]);
+        Ok(count)
+    }
+}
+}
+mod told {
+//! A reader that tells on standard error how far it is, if that is a terminal.
+use std::prelude::*;
+
+use std::eprint;
+
+use std::io::{IsTerminal, Read, Result};
+use std::time::Instant;
+
+/// The bytes after which the clock is looked at, so a slow input is told less often.
+const MEGABYTE: u64 = 1_000_000;
+
+/// The least number of seconds between one line and the next.
+const STAYS_SECONDS: u64 = 1;
+
+/// What clears a line, whatever it tells.
+const CLEARING: &str = "\r                           \r";
+
+/// A reader that tells on standard error how much of another one was read, if that is a terminal:
+/// in one line, which is written anew at most once a second. It gives what the other one gives.
+pub struct Told<'a, R> {
+    rt: &'a HostRuntime,
+    stream: R,
+    may_tell: bool,
+    // How many bytes were read, and how many at the last look.
+    read: u64,
+    looked_at: u64,
+    // When the last line was written, or the first look was.
+    since: Option<Instant>,
+    // Whether there is a line.
+    stands: bool,
+}
+
+impl<'a, R> Told<'a, R> {
+    /// Returns a reader that gives what `stream` gives. It tells nothing unless
+    /// `may_tell` is set.
+    pub fn new(rt: &'a HostRuntime, stream: R, may_tell: bool) -> Told<'a, R> {
+        Told {
+            rt,
+            stream,
+            may_tell,
+            read: 0,
+            looked_at: 0,
+            since: None,
+            stands: false,
+        }
+    }
+
+    // Writes the line anew, if it is time to.
+    fn tell(&mut self) {
+        self.looked_at = self.read;
+        if !self.may_tell || !self.rt.stderr().is_terminal() {
+            return;
+        }
+        let Ok(now) = Instant::now(self.rt) else {
+            return;
+        };
+        if let Some(since) = self.since {
+            if now.duration_since(since).as_secs() < STAYS_SECONDS {
+                return;
+            }
+            let megabytes = self.read / MEGABYTE;
+            let _ = eprint!(self.rt; "\rdvg: {megabytes} MB read");
+            self.stands = true;
+        }
+        self.since = Some(now);
+    }
+
+    /// Clears the line, if there is one. Returns the reader that was told of.
+    pub fn end(self) -> R {
+        if self.stands {
+            let _ = eprint!(self.rt; "{CLEARING}");
+        }
+        self.stream
+    }
+}
+
+impl<R: Read> Read for Told<'_, R> {
+    fn read(&mut self, buf: &mut [u8]) -> Result<usize> {
+        let count = self.stream.read(buf)?;
+        self.read = self.read.saturating_add(count as u64);
+        if self.read.saturating_sub(self.looked_at) >= MEGABYTE {
+            self.tell();
+        }
+        Ok(count)
+    }
+}
+}
 
 use clap::Error;
 use clap::error::ErrorKind;
