@@ -8,6 +8,7 @@ use std::fmt::{self, Write};
 const UNEXPECTED: &[u8] = b"error: unexpected argument '";
 
 /// The first bytes of a text: as many as tell how an argument begins.
+#[derive(Drop)]
 struct Front {
     bytes: ArrayVec<u8, 32>,
 }
