@@ -5,8 +5,9 @@
 ASKED is what `tests/unfold --asked` wrote. CORPUS gets a folder for each target: `texts` has the
 words and the inputs as they are, `requests` what the module for Python asks of a device while it
 plays a trace or draws a dump, `worlds` and `generators` what is saved amid these, in both versions,
-and of it what stands behind the RAM or the head. `words` is a dictionary of what stands in the
-inputs. The shared library is the one that DVG_LIBRARY names.
+and of it what stands behind the RAM or the head. These three also have states with a number at its
+limit, and one past it (limits.py). `words` is a dictionary of what stands in the inputs. The shared
+library is the one that DVG_LIBRARY names.
 """
 
 import hashlib
@@ -19,6 +20,7 @@ TOP = Path(__file__).resolve().parents[3]
 sys.path[:0] = [str(TOP / "python"), str(TOP / "tests/parts/embed")]
 import embed_states as states  # noqa: E402
 import gerbilargent as g  # noqa: E402
+import limits  # noqa: E402
 
 # The most bytes of an input, the most events of a trace that is played, and the most bytes that a
 # generator fetches.
@@ -38,6 +40,10 @@ HEXADECIMAL = {"callrom": "call_rom", "jumprom": "jump_rom"}
 # Requests that the module makes by calls of dvg.h: what these ask stands there.
 STAGE, UNSTAGE, OPEN_WORLD, OPEN_DRIVER, RESET_ALL, CLEAR = 10, 11, 12, 13, 7, 9
 RESUME, RESUME_WRAPPING = 29, 34
+# Requests that take a number, from 0 to the first without an answer: return addresses, parts of a
+# state, operations. Then requests for the last byte of the RAM, for the one after it, and for a
+# stroke of no run.
+NUMBERED, AT_ENDS = (27, 28, 33), (31 | 2047 << 8, 31 | 2048 << 8, 18, 19, 20)
 
 
 class Noting:
@@ -226,6 +232,35 @@ def drive(library, corpus, rom, happens):
         keep(corpus / "requests", library.take(driver))
 
 
+# --- Limits ---
+
+
+def ask_to_ends(library, thing):
+    """Asks a world or a generator for all that has a number, and for one more than there are."""
+    device, none = thing._handle.device, (g.Kind.NOTHING, g.Kind.UNKNOWN)
+    for code in NUMBERED:
+        numbers = (code | number << 8 for number in itertools.count())
+        any(library.dvg_turn(device, number) & 0xFF in none for number in numbers)
+    for number in AT_ENDS:
+        library.dvg_turn(device, number)
+
+
+def keep_limits(library, corpus):
+    """Keeps states with a number at its limit, and one past it, for the three targets. `worlds` and
+    `generators` make version 2 of each, with the right sum. `requests` restores each, and asks for
+    all that there is then."""
+    for first in limits.all_beside(RETURNS):
+        is_world, wraps = first[2:3] == b"W", first[2:3] == b"R"
+        if is_world:
+            keep(corpus / "worlds", first[2056:] + bytes(1))
+        else:
+            keep(corpus / "generators", first[8:] + bytes(2 + wraps))
+        with g.World(RETURNS) if is_world else g.Generator() as thing:
+            limits.is_restored(thing, first)
+            ask_to_ends(library, thing)
+            keep(corpus / "requests", library.take(thing))
+
+
 # --- All that is asked ---
 
 
@@ -240,6 +275,7 @@ def main(asked, corpus):
     g._load = lambda path: library
     for name in ("texts", "requests", "worlds", "generators"):
         (corpus / name).mkdir(parents=True)
+    keep_limits(library, corpus)
     inputs = []
     for folder in sorted(asked.iterdir()):
         words = (folder / "arguments").read_bytes()
