@@ -1156,6 +1156,10 @@ async function begin() {
   drops = new Drops(engine, drawer, DROP_STAGE);
   makePlay();
   addEventListener('hashchange', loadFragment);
+  // This link changes no fragment where there is none.
+  document.querySelector('.to-game').addEventListener('click', () => {
+    if (location.hash === '') loadFragment();
+  });
   await loadFragment();
   showPreviews();
   document.body.dataset.opened = Math.round(performance.now());

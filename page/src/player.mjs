@@ -151,13 +151,16 @@ export class Player {
   }
 }
 
+/* Who clicks a button goes on by the keys of the game; who presses it by a key stays there. */
+function goOnByKeys(player, { detail, target }) {
+  if (!player.isShown || detail === 0 || !target.closest?.('button')) return;
+  byId('tube').focus({ preventScroll: true });
+}
+
 /* Keys, touches and buttons of a game; `player` has restart(), too. */
 export function listenToPlayer(player) {
-  // Who clicks goes on by the keys of the game; who presses a button by a key stays there.
-  const on = (id, act) => byId(id).addEventListener('click', ({ detail }) => {
-    act();
-    if (detail > 0) byId('tube').focus({ preventScroll: true });
-  });
+  const on = (id, act) => byId(id).addEventListener('click', act);
+  document.addEventListener('click', (event) => goOnByKeys(player, event));
   listenToGameKeys(player);
   for (const button of document.querySelectorAll('[data-input]')) listenToTouch(player, button);
   on('restart', () => player.restart());

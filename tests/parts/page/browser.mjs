@@ -1762,6 +1762,25 @@ async function testTube() {
   expect('and later another one', true, seen.size > 1);
 }
 
+// Who clicks a button of the game plays on by its keys; and after a file that is none of the page's
+// the link to the game leads back to it.
+async function testWayBack() {
+  await tab.open(`${front}#`);
+  await tab.until('/, [1-9]\\.[0-9] s/.test(document.getElementById("run-counts").textContent)');
+  await tab.click('game-wire');
+  expect('the keys are the game\'s', 'tube', await tab.value('document.activeElement.id'));
+  await tab.hold(' ', 32, true);
+  await tab.hold(' ', 32, false);
+  expect('and Space mends no wire', 'true',
+    await tab.value('document.getElementById("game-wire").getAttribute("aria-pressed")'));
+  await tab.click('game-wire');
+  await tab.drop('tube', put('a.png', Buffer.from('\x89PNG\r\n\x1A\n', 'latin1')));
+  const plays = 'document.body.classList.contains("plays")';
+  await expectSoon('no game is shown', false, () => tab.value(plays));
+  await tab.value('document.querySelector(".to-game").click()');
+  await expectSoon('and then it is again', true, () => tab.value(plays));
+}
+
 // Keys and touches come to the game: in Rocks the ship turns, and a shot is seen.
 async function testHands() {
   await tab.open(front);
@@ -2276,8 +2295,8 @@ const tests = {
   testHttp, testInView, testGrey, testCode, testTour, testMend,
     testWidths, testSmall, testEmbed, testColors, testMotion, testKeys, testRows, testOnAndOn,
     testEdges,
-  testGame, testTube, testHands, testWhatIf, testTries, testStrip, testSound, testGameDrops,
-    testGameLink, testGamePage, testGameWidths,
+  testGame, testTube, testHands, testWayBack, testWhatIf, testTries, testStrip, testSound,
+    testGameDrops, testGameLink, testGamePage, testGameWidths,
   testLive, testPlain, testLessonFrames, testEditorsStill, testReadAloud, testAccess, testStops,
   testMinutes, testBoards, testSpeed, testSlowed,
 };
