@@ -8,7 +8,7 @@ pub mod SketchesLaid
 mod ChecksSaid
 mod EndsDrawn
 mod FramesDrawn
-mod RamLaid
+pub mod RamLaid
 mod Walked
 mod PictureTimes
 mod DraftsRead

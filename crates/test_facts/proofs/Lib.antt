@@ -8,7 +8,6 @@ pub mod Peeking
 pub mod Called
 pub mod Redraws
 pub mod Alone
-pub mod Laying
 pub mod FourFrames
 pub mod TraceRuns
 pub mod Handed

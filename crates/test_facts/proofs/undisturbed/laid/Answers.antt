@@ -1,5 +1,5 @@
 use Rattle.std.proofs.Common.{◌<◌, ◌+◌, ◌*◌, ap, arith}
-use Rattle.test_facts.proofs.Laying.{all_laid, more_laid}
+use Rattle.dvg_lay.proofs.RamLaid.{all_laid, more_laid}
 use Rattle.test_facts.proofs.undisturbed.laid.Goals as goal
 
 pub loop-k-preserved : goal.loop-k-preserved

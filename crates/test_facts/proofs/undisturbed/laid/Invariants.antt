@@ -1,4 +1,4 @@
-use Rattle.test_facts.proofs.Laying.{IsLaid}
+use Rattle.dvg_lay.proofs.RamLaid.{IsLaid}
 use Rattle.test_facts.proofs.undisturbed.laid.Given as goal
 
 abbrev pub invariant-loop-k : goal.invariant-loop-k
