@@ -1,4 +1,7 @@
-//! A judge of logs, whoever made them: is each run consistent?
+//! A judge of logs, whoever made them: is each run consistent? It has a call for each kind of line.
+//! Whoever has lines in another form chooses the call by one match: `take` here by event and entry,
+//! dvg_logs by texts, in which a HALT has no word, and dvg_device by numbers. One type of line for
+//! all three would be one match more for each.
 ghost use Rattle.std.specs.Prelude.{◌≡◌, ◌≢◌, ◌<◌, ◌↔◌, ◌∷◌, [], List, ℕ, IsTrue, None};
 ghost use Rattle.std.specs.Prelude.{Some, false, slice_index_or};
 ghost use Rattle.dvg_driver.specs.declared.action.Action.TheVariants.{Idle, Wrote};
