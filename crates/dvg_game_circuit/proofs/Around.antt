@@ -246,6 +246,7 @@ module _ (R image : List ℕ) (rom : ℕ → ℕ) (held : Held) (is_rom : IsRom 
               (here.ram amid reads);
           written = written held clocks bus is fine (bank_in clocks all here);
         };
+        any = record { reset = lit< tt; tick = lit< tt; ready = lit< tt; held = lit< tt; switches = lit< tt };
       }
 
 pub goes_around : BoardGoesAround

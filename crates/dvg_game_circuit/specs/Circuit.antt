@@ -28,6 +28,10 @@ pub record IsBus (bus : Bus) : Type 0 where
   pub held : bus.held < 65536
   pub switches : bus.switches < 256
 
+-- each pin is high
+abbrev pub high : Bus → Bus
+high bus = record bus { reset = 1; tick = 1; ready = 1; held = 65535; switches = 255 }
+
 -- the byte of the ROM that the processor reads here: the program from 6800 on, the vector ROM below
 abbrev pub read : (code : ℕ → ℕ) → ℕ → ℕ
 read code a = code (if nat_lt a 0x6800 then a % 0x800 else a - 0x6000)
