@@ -9,12 +9,12 @@ use Rattle.dvg_calls_6502.specs.Calls.{IsSessionBy, UnlessReset}
 use Rattle.dvg_calls_6502.specs.Programs.{Tells}
 use Rattle.dvg_game_6502.specs.Play.{done, fresh}
 
--- a byte of the ROM
+-- an address of the ROM, 4800 to 7FFF
 abbrev pub InRom : ℕ → Type 0
 InRom b = (0x4800 ≤ b) × (b < 0x8000)
 
--- the processor is in this call, which began with this S, and has accessed this. Its memory is what the call's next
--- step finds: as its last one left it, or as an NMI did since
+-- the processor is in a call of this routine that began with this S, and has made these accesses.
+-- Each guarded byte of its memory is as the call left it; an NMI may have changed the others
 pub record IsIn (R : List ℕ) (routine : Routine) (s : ℕ) (calls : List Call) (cpu : Cpu) (log : List Access)
     (flags : ℕ → ℕ) : Type 0 where
   pub call : Call
@@ -26,7 +26,7 @@ pub record IsIn (R : List ℕ) (routine : Routine) (s : ℕ) (calls : List Call)
   pub after : after call ≡ record cpu { mem = left; flags = flags; log = log }
   pub same : (b : ℕ) → guards (is_kept (is_table call calls)) s cpu.s b ≡ true → cpu.mem b ≡ left b
 
--- whatever the flag will say, which nobody knows yet
+-- the processor is in such a call, whatever the flag will answer to its next reads
 abbrev pub IsOpen : List ℕ → Routine → ℕ → List Call → Cpu → List Access → Type 0
 IsOpen R routine s calls cpu log = (flags : ℕ → ℕ) → IsIn R routine s calls cpu log flags
 
@@ -37,7 +37,7 @@ Rested R (older ∷ calls) mem = IsSessionBy (Tells R) (older ∷ calls) × (is_
     × ((b : ℕ) → (is_own b || is_ram b) ≡ true → mem b ≡ (after older).mem b)
     × ((b : ℕ) → (bounds (older ∷ calls)).0 ≤ b → b < (bounds (older ∷ calls)).1 → mem b ≡ (after older).mem b)
 
--- a call begins there, or a dvg_reset anywhere; tables stand in the ROM
+-- a call begins where the newest call is over, and a dvg_reset anywhere; tables are in the ROM
 abbrev pub DriverBegins : Type 0
 DriverBegins = (R : List ℕ) (routine : Routine) (cpu : Cpu) (calls : List Call)
     → UnlessReset routine (Rested R calls cpu.mem)
@@ -53,7 +53,7 @@ DriverSteps = (R : List ℕ) (routine : Routine) (s : ℕ) (calls : List Call) (
     (flags : ℕ → ℕ) → IsOpen R routine s calls cpu log → at_return s cpu ≡ false
     → IsOpen R routine s calls (done flags cpu) ((done flags cpu).log ++ log)
 
--- others that leave what is guarded, of any tables in the ROM, are none: an NMI, or what is outside
+-- a change of memory that spares all guarded bytes, any tables in the ROM too, leaves a call open
 abbrev pub NmiPasses : Type 0
 NmiPasses = (R : List ℕ) (routine : Routine) (s : ℕ) (calls : List Call) (cpu : Cpu) (log : List Access) (m : ℕ → ℕ)
     → IsOpen R routine s calls cpu log

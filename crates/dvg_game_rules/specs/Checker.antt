@@ -89,7 +89,7 @@ same_register X X = true
 same_register Y Y = true
 same_register one other = false
 
--- what is to be known is known
+-- the second slot, which is known, is as the first one asks; `Any` asks for nothing
 abbrev pub serves : Slot → Slot → Bool
 serves Any known = true
 serves (Was one) (Was other) = same_register one other
@@ -126,7 +126,7 @@ abbrev pub older : List Slot → List Slot
 older [] = []
 older (slot ∷ slots) = slots
 
--- as they were where the NMI came
+-- A, X and Y hold what they did where the NMI came
 abbrev pub unchanged : Held
 unchanged = record { a = Was A; x = Was X; y = Was Y }
 
@@ -146,7 +146,7 @@ abbrev pub is_output : ℕ → Bool
 is_output a = nat_eq a 0x3200 || (nat_eq a 0x3400 || (nat_eq a 0x3600 || (nat_eq a 0x3A00 || (nat_eq a 0x3E00
     || (nat_le 0x3C00 a && nat_lt a 0x3C06)))))
 
--- RAM and outputs of the game's own
+-- an address of the game's own: of its RAM, or of an output
 abbrev pub is_free : ℕ → Bool
 is_free a = nat_lt a 0x10 || ((nat_le 0x21 a && nat_lt a 0x100) || ((nat_le 0x200 a && nat_lt a 0x400) || is_output a))
 
@@ -154,8 +154,8 @@ is_free a = nat_lt a 0x10 || ((nat_le 0x21 a && nat_lt a 0x100) || ((nat_le 0x20
 abbrev pub is_strobe : ℕ → Bool
 is_strobe a = nat_le 0x3000 (a % 0x8000) && nat_lt (a % 0x8000) 0x3200
 
--- what code may write: the program also dvg_y and dvg_x, and where no subroutine is open the driver's bytes, after
--- which dvg_reset must be called
+-- where code may write: the NMI at the game's own addresses; a subroutine also at dvg_y and dvg_x;
+-- the program outside of subroutines also at the driver's bytes, after which it must call dvg_reset
 abbrev pub may_write : Level → ℕ → Bool
 may_write Main a = is_free a || (is_operand a || is_own a)
 may_write Sub a = is_free a || is_operand a
@@ -178,8 +178,8 @@ is_entry a = nat_eq a dvg_reset || (nat_eq a dvg_run || (nat_eq a dvg_ticks || (
 abbrev pub goes_on : ℕ → Bool
 goes_on a = nat_eq a dvg_put || (nat_eq a dvg_pair || (nat_eq a dvg_vector || nat_eq a dvg_close))
 
--- the driver may be called: at an entry, with room for two return addresses, not by the NMI, dvg_reset first, and
--- dvg_labs first in a frame
+-- the driver may be called: at an entry, with room for two return addresses, and not by the NMI; at
+-- any but dvg_reset only once dvg_reset was called, and at one of `goes_on` only after dvg_labs
 abbrev pub enters : ℕ → Note → Bool
 enters to now = is_entry to && (nat_le 4 now.room && (not (same_level now.level Nmi) && ((is_reset to || now.awake)
     && implies (goes_on to) (not now.blank))))
@@ -274,7 +274,7 @@ bytes_of kind = 0
 abbrev pub stack_setting : List ℕ
 stack_setting = 0xA2 ∷ 0xFF ∷ 0x9A ∷ []
 
--- from here it does this many such instructions at most, then LDX #$FF and TXS, and is where the program starts
+-- from `at` on come fewer than this many such instructions, then LDX #$FF and TXS, then `start`
 abbrev pub boots : ℕ → (rom : ℕ → ℕ) → (at start : ℕ) → Bool
 boots zero rom at start = false
 boots (suc n) rom at start = is_code at && (if stand_at stack_setting rom at then nat_eq start (at + 3)

@@ -1,7 +1,7 @@
--- A 6502 that runs a game: where it goes, where it writes, and which registers it saves. Whatever it computes, reads
--- and decides may be anything.
+-- A 6502 that runs a game: where it goes, where it writes, and which registers it saves. What it
+-- computes, reads and decides may be anything.
 --
--- A15 isn't decoded on the board, so an address from 8000 on is one below: the ROM's vectors stand at 7FFA to 7FFD.
+-- The board doesn't decode A15, so 8000 to FFFF is 0000 to 7FFF: the vectors are at 7FFA to 7FFD.
 use Rattle.std.specs.Prelude.{false, true, ◌≡◌, ℕ, suc, ◌+◌, ◌-◌, ◌*◌, ◌/◌, ◌%◌, ◌≤◌, ◌<◌, ◌&&◌, ◌||◌, Bool, not}
 use Rattle.std.specs.Prelude.{nat_eq}
 use Rattle.std.specs.Prelude.{nat_le}
@@ -33,8 +33,8 @@ pub record Came : Type 0 where
   pub x : ℕ
   pub y : ℕ
 
--- the state. A processor has all up to `mem`; of the rest, which is written along, its next step depends on nothing but
--- where an NMI amid the driver leads back to
+-- the state: the fields up to `mem` are the processor's, and the others are a record of its run. Of
+-- those only `home`, where an NMI amid the driver leads back to, decides what its next step does
 pub record State : Type 0 where
   pub a : ℕ
   pub x : ℕ
@@ -55,9 +55,9 @@ pub record State : Type 0 where
   -- since dvg_open no dvg_labs was called
   pub blank : Bool
 
--- what is left open: what an instruction computes or reads into a register, what X or Y hold at a store, what is stored
--- or pushed, whether a branch is taken, what the driver and NMIs amid it leave of registers and memory, and when the
--- last came
+-- what is left open: what an instruction computes or reads into a register, what X or Y hold at a
+-- store, what is stored or pushed, whether a branch is taken, what the driver and NMIs amid it
+-- leave of registers and memory, and how many instructions came since the last of these NMIs
 pub record Choice : Type 0 where
   pub a : ℕ
   pub x : ℕ
@@ -224,7 +224,7 @@ calling kind st = false
 abbrev pub calls_driver : State → Bool
 calls_driver st = calling (kind_of (st.mem st.pc)) st && not (restarts st)
 
--- amid that call, before an NMI: at some place in the driver, with some bytes pushed
+-- the state amid a call of the driver, before an NMI: at this place, with this many bytes pushed
 abbrev pub within : Choice → State → State
 within choice st = record st {
   pc = choice.place;
@@ -236,16 +236,16 @@ within choice st = record st {
   home = Some (st.pc, st.s);
 }
 
--- switches, coins, sounds, RAM that is exchanged, the strobe's place: what a pin answers, and nothing keeps. It is all but
--- the zero page, the stack, the vector RAM, the flag and the ROM
+-- an address where a pin answers and nothing keeps a byte: switches, coins, sounds, exchanged RAM,
+-- the strobe. It is any but those of the zero page, the stack, the vector RAM, the flag and the ROM
 abbrev pub is_outside : ℕ → Bool
 is_outside b = nat_le 0x200 b && not (is_readable b || (nat_le 0x4800 b && nat_lt b 0x8000))
 
--- between two memories that alone may have changed
+-- the two memories differ only at addresses that are outside
 abbrev pub IsTurned : (old new : ℕ → ℕ) → Type 0
 IsTurned old new = (b : ℕ) → is_outside b ≡ false → new b ≡ old b
 
--- after a reset's LDX #$FF and TXS, of which the next instruction stands here; memory may hold anything but in the ROM
+-- the state after a reset's LDX #$FF and TXS, PC at `start`; of memory only the ROM is known
 pub record Begins (rom : ℕ → ℕ) (start : ℕ) (st : State) : Type 0 where
   pub loaded : IsLoaded rom st.mem
   pub entry : st.pc ≡ start

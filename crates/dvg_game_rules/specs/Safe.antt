@@ -9,8 +9,8 @@ use Rattle.dvg_game_rules.specs.Machine.{State, IsLoaded, word_at, is_driver, is
 use Rattle.dvg_game_rules.specs.Machine.{resumed_at, reset_vector, IsRun}
 use Rattle.dvg_game_rules.specs.Checker.{goes_on, Notes, is_free, is_strobe, is_entry, is_code, accepts}
 
--- a byte that a game may write: amid an NMI one of its own; else also dvg_y or dvg_x, or one of the driver's, after
--- which it is asleep; and these where no call is open
+-- an address that a game may write: one of its own; if not amid an NMI, also dvg_y or dvg_x; and if
+-- no call is open either, also one of the driver's, after which dvg_reset must be called
 abbrev pub MayWrite : State → ℕ → Type 0
 MayWrite st a = (is_free a ≡ true) ⊎ ((st.amid ≡ None) × ((is_operand a ≡ true)
     ⊎ ((is_own a ≡ true) × (st.calls ≡ []))))
