@@ -80,8 +80,8 @@ SketchJobArguments = AskFor (codes "render" ∷ []) (Render (show_of 100 30))
     × AskFor (codes "lay" ∷ codes "--equates" ∷ []) (Lay Equates)
     × AskFor (codes "lay" ∷ codes "--draft" ∷ []) (Lay Draft)
 
--- arguments that ask for help, or for the version; the arguments after `help` may name no
--- subcommand
+-- arguments that ask for help, or for the version; what comes after `help` may also be refused
+-- because it is no subcommand
 abbrev pub HelpArguments : Type 0
 HelpArguments = FailAs (
     (codes "--help" ∷ [], DisplayHelp ∷ [])
@@ -144,8 +144,8 @@ GivesNoneRefused name rows = (name ≡ codes "torn" → sets (codes "all") rows 
     × All (λ id. gives id rows ≡ false) (codes "at" ∷ codes "scale" ∷ codes "rate" ∷ codes "half"
     ∷ codes "base" ∷ [])
 
--- without these options nothing is refused after the matching, so arguments that the command takes fail only for want
--- of memory
+-- without these options nothing is refused after the matching, so arguments that the command takes
+-- fail only where an allocation fails
 abbrev pub UnrefusedOptions : Type 0
 UnrefusedOptions = (arguments : List Text)
     → IfSome (subcommand_of dvg_app arguments) (λ met. GivesNoneRefused met.0 met.1)

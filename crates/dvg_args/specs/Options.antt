@@ -127,8 +127,8 @@ shows_well rows = is_some (percent_of rows) && is_some (rate_of rows)
 abbrev pub list_fault : List Row → Kinds
 list_fault rows = refused_by false false (not (gives (codes "at") rows) || is_some (address_of rows))
 
--- how the options of `picture` and of `play` are refused, of which two may clash: a size and a rate go with `--svg`
--- alone
+-- how the options of `picture` and of `play` are refused: `clash` says whether two of them exclude
+-- each other; a size and a rate need `--svg`
 abbrev pub svg_fault : (clash : Bool) → List Row → Kinds
 svg_fault clash rows = refused_by clash
     (not (sets (codes "svg") rows) && (gives (codes "scale") rows || gives (codes "rate") rows))

@@ -20,7 +20,7 @@ use Rattle.dvg_blame.specs.declared.refusal.Refusal.{Refusal}
 use Rattle.dvg_blame.specs.declared.refusal.Unlaid.{Unlaid}
 use Rattle.dvg_blame.specs.declared.refusal.Unlaid.TheVariants.{Refused, Memory}
 
--- a frame as it is lent: at most 511 operations, and the line of each
+-- a named frame has at most 511 operations, and one source line for each of them
 pub record IsLent (frame : NamedFrame) : Type 0 where
   pub few : length frame.ops.now ≤ 511
   pub lines : length frame.sources.now ≡ length frame.ops.now

@@ -113,7 +113,7 @@ abbrev pub are_steady : (kept : ℕ → Bool) (s n : ℕ) → Cpu → Bool
 are_steady kept s zero cpu = true
 are_steady kept s (suc n) cpu = is_steady kept s cpu && are_steady kept s n (turn s cpu)
 
--- what a program sets for a call, and what a call counts by: dvg_y, dvg_x, left, length
+-- a call's working bytes: its arguments dvg_y and dvg_x, and left and length, by which it counts
 abbrev pub is_work : ℕ → Bool
 is_work b = nat_le 0x1B b && nat_lt b 0x21
 

@@ -20,7 +20,7 @@ publish_in mem = mem 0x12
 abbrev pub place_in : (ℕ → ℕ) → ℕ
 place_in mem = mem 0x13
 
--- pages, end: how many pages end before the last byte, and `at` after that byte
+-- pages, end: of a table, how many pages end before its last byte, and `at` after that byte
 abbrev pub pages_in : (ℕ → ℕ) → ℕ
 pages_in mem = mem 0x16
 

@@ -121,9 +121,9 @@ VectorRefuses = (cpu : Cpu) → Enters cpu dvg_vector
     → (put_by Vector cpu ≡ []) ⊎ ((nat_eq (phase_in cpu.mem) 7 ≡ false) ⊎ HasNoRoom cpu.mem (length (put_by Vector cpu)))
     → IsRefused cpu
 
--- the call returns with C clear and S as it was, and touches no hardware; a frame of these bytes is begun in the free
--- half; but for the driver's bytes, memory is as it was; the same amid others, and what else they leave alone is as
--- without them
+-- the call returns with C clear and S as it was, and touches no hardware; a frame of these bytes is
+-- begun in the free half; memory is as it was but for the driver's bytes. The same holds amid
+-- others, and what else they leave alone is as without them
 pub record Opens (cpu : Cpu) (half : Half) (flipped : Bool) (rest : List ℕ) : Type 0 where
   pub steps : ℕ
   pub returns : at_return cpu.s (run cpu.s steps cpu) ≡ true
@@ -159,8 +159,8 @@ abbrev pub CloseTakes : Type 0
 CloseTakes = (cpu : Cpu) (half : Half) (flipped : Bool) → Enters cpu dvg_close
     → IsBuilding cpu.mem half flipped (0 ∷ 0xB0 ∷ []) → Closes cpu half flipped
 
--- a call that changes nothing: it returns with S as it was, touches no hardware, and leaves memory as it was; the same
--- amid others
+-- a call that changes nothing: it returns with S as it was, touches no hardware, and leaves memory
+-- as it was. The same holds amid others
 pub record Idles (cpu : Cpu) : Type 0 where
   pub steps : ℕ
   pub returns : at_return cpu.s (run cpu.s steps cpu) ≡ true

@@ -72,7 +72,7 @@ abbrev pub is_leaving : ℕ → Cpu → Bool
 is_leaving s cpu = is_code cpu.pc && (is_code (cpu.pc + 1)
     && (nat_eq (cpu.mem cpu.pc) 0x18 && (nat_eq (cpu.mem (cpu.pc + 1)) 0x60 && nat_eq cpu.s s)))
 
--- its answer is decided: whatever others do from there on to all bytes but the code's, it returns with that C
+-- a call's C is decided: it returns with that C, whatever others then do to bytes outside the code
 abbrev pub is_decided : Call → Bool
 is_decided call = is_refused call || is_leaving call.from.s (after call)
 
@@ -154,8 +154,8 @@ abbrev pub IsLeftAlone : Call → List Call → Type 0
 IsLeftAlone call calls =
     AreHarmless (guards (is_kept (is_table call calls)) call.from.s) call.from.s call.others call.steps call.from
 
--- what nobody else writes between two calls: the driver's bytes, the vector RAM, and a table while it is being
--- written (DVG_WRITE)
+-- what nobody else writes between two calls: the driver's bytes, the vector RAM, and a table while
+-- the driver is writing its frame (the phase DVG_WRITE)
 pub record IsUntouched (calls : List Call) (before now : ℕ → ℕ) : Type 0 where
   pub own : (b : ℕ) → is_own b ≡ true → now b ≡ before b
   pub ram : (b : ℕ) → is_ram b ≡ true → now b ≡ before b

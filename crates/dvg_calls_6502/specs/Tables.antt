@@ -13,8 +13,8 @@ use Rattle.dvg_frame.specs.Faults.{Accepts}
 use Rattle.dvg_calls_6502.specs.Board.{is_hardware}
 use Rattle.dvg_calls_6502.specs.Feed.{fed}
 
--- a table can express this operation: what it names of the ROM stands from 400 on, and what it names of the frame in
--- half 0
+-- a table can express this operation: what it names of the ROM is at word 400 or above, and what it
+-- names of the frame is in half 0
 abbrev pub IsExpressible : List OpKind → OpKind → Type 0
 IsExpressible F (CallRom a) = 0x400 ≤ a
 IsExpressible F (JumpRom a) = 0x400 ≤ a

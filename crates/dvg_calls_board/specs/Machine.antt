@@ -147,7 +147,7 @@ abbrev pub FitsPins : Log → Access → Type 0
 FitsPins log (Reads a byte) = a ≡ 0x2002 → byte ≡ (if is_none (open_run log) then 0 else 128)
 FitsPins log (Writes a byte) = byte < 256
 
--- where the newest call makes an access next, which fits the pins, a clock can come that makes it
+-- if the newest call's next access fits the pins, the machine can have a clock that makes it
 abbrev pub AccessComes : List ℕ → List ℕ → (ℕ → ℕ) → List Call → Log → List Bus → Type 0
 AccessComes R image held [] log clocks = Unit {0}
 AccessComes R image held (call ∷ calls) log clocks = (n : ℕ) (access : Access) → IsSession (later n call ∷ calls)

@@ -58,8 +58,8 @@ cycles_for R machine nmi hold (suc n) cpu =
 abbrev pub answers_itself : ℕ → Bool
 answers_itself a = nat_eq (part 11 5 a) 8 || (nat_eq a 0x2002 || nat_eq a 0x3000)
 
--- and then it is what this processor has there: the flag. Of its RAM nothing is asked, as long as the instruction has written
--- nothing
+-- where the board answers a read, it answers what this processor has there. Of reads of its RAM
+-- nothing is asked until the instruction has written something
 abbrev pub BoardAnswers : Cpu → (fresh : Bool) → Machine → List Turn → Type 0
 BoardAnswers cpu fresh machine [] = Unit {0}
 BoardAnswers cpu fresh machine (idles drive ∷ later) = BoardAnswers cpu fresh (next machine (idles drive)) later

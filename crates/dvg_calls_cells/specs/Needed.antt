@@ -32,11 +32,11 @@ Spoils P calls = (older : List Bus) × (cells : Cells) × (list : List Turn) × 
     × WriteAt P (made cells (cycles_of (at_rest held older cells) list) [])
     × NoLog calls (older_after held older cells list)
 
--- the strobe has to be left alone, also before the first call: here the RAM is, and the strobe isn't
+-- before the first call it isn't enough to leave the RAM alone: after a strobe there is no log
 abbrev pub NeedsNoStrobe : Type 0
 NeedsNoStrobe = Spoils (λ a. is_ram a ≡ false) []
 
--- after a call the RAM has to be: here the strobe is, and the RAM isn't
+-- after a call it isn't enough to leave the strobe alone: after a write of the RAM there is no log
 abbrev pub NeedsNoWrite : Type 0
 NeedsNoWrite = (call : Call) × (calls : List Call) × (is_over call ≡ true) × Spoils IsSilent (call ∷ calls)
 

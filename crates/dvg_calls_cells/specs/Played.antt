@@ -65,13 +65,13 @@ pub record IsPlaced (cpu : Cpu) : Type 0 where
   pub first : found (cpu.pc + 1) cpu ≡ cpu.mem (cpu.pc + 1)
   pub second : found (cpu.pc + 2) cpu ≡ cpu.mem (cpu.pc + 2)
 
--- an address of the board's RAM
+-- an address of the board's vector RAM, 4000 to 47FF
 abbrev pub in_board : ℕ → Bool
 in_board a = nat_eq (a / 0x800) 8
 
--- what the reads of an instruction find: outside the board it is what this processor has in memory, and at the flag's
--- place what its next read of the flag gives. Of the board's RAM nothing is asked, as long as the instruction has
--- written nothing
+-- what the reads of an instruction find: outside the board it is what this processor has in memory,
+-- and at the flag's place what its next read of the flag gives. Of reads of the board's RAM nothing
+-- is asked until the instruction has written something
 abbrev pub AreFound : Cpu → (fresh : Bool) → Machine → List Turn → Type 0
 AreFound cpu fresh machine [] = Unit {0}
 AreFound cpu fresh machine (acts two ∷ later) =
@@ -80,8 +80,8 @@ AreFound cpu fresh machine (acts two ∷ later) =
     × AreFound cpu (fresh && nat_eq (write machine.cpu) 0) (next machine (acts two)) later
 AreFound cpu fresh machine (idles drive ∷ later) = AreFound cpu fresh (next machine (idles drive)) later
 
--- the cells do the next instruction of this call: they rest as it has come, and their reads are answered with its
--- memory
+-- the cells do the next instruction of this call: they rest where the call has come to, and their
+-- reads are answered with the call's memory
 pub record Does (R : List ℕ) (held : ℕ → ℕ) (call : Call) (older : List Bus) (cells : Cells)
     (list : List Turn) : Type 0 where
   pub unfinished : is_over call ≡ false

@@ -1,5 +1,5 @@
--- An instruction of a call of the driver's code on the cells is a step of the call, and its access is made on the
--- board.
+-- An instruction of a call of the driver's code on the cells is a step of the call, and its access
+-- is made on the board.
 use Rattle.std.specs.Prelude.{◌≡◌, ℕ, true, false, List, [], ◌∷◌, length}
 use Rattle.dvg_calls_6502.specs.Processor.{Cpu, Instr, opcodes, decoded, at_return}
 use Rattle.dvg_calls_6502.specs.Single.{is_single}

@@ -41,7 +41,7 @@ answered image held older bus whole log =
 abbrev pub Driver : Type 1
 Driver = List ℕ → List ℕ → Log → Happening → Shown → Type 0
 
--- what the processor did is as it is asked
+-- the processor did nothing, or its action satisfies `D` as a tick
 abbrev pub FitsIf : (Happening → Shown → Type 0) → Option Action → Type 0
 FitsIf D None = Unit {0}
 FitsIf D (Some action) = D Tick (Acted action)

@@ -18,8 +18,8 @@ use Rattle.dvg_cells_core.specs.Refines.{ArePins, after, Agrees}
 abbrev pub moves_of : Newest → List Move
 moves_of run = moves run.first run.visits
 
--- the pins tell of a LABS, which leaves x and y at its position, or of a vector, whose fields lead counters as the
--- move does
+-- the pins report this move: that of a LABS, after which x and y are at its position, or that of a
+-- vector, whose fields step counters as the move does
 abbrev pub TellsMove : Bool → Core → Pins → Move → Type 0
 TellsMove true core pins move = (vec core pins ≡ 0) × (labs core pins ≡ 1)
     × ((old : Counters) → followed old move
@@ -55,15 +55,15 @@ TellsKind (Some (Whole None)) held core pins = (pin.ends core pins ≡ 0) × (pi
 TellsKind (Some (Waits byte)) held core pins = (pin.ends core pins ≡ 0) × (pin.jsrl core pins ≡ 0)
 TellsKind None held core pins = (pin.ends core pins ≡ 0) × (pin.jsrl core pins ≡ 0)
 
--- in each clock since power-up but those of a reset and a start, the run gains those moves that the pins tell of, and
--- they tell of what the clock met
+-- in each clock since power-up without a reset or a start, the run gains the moves that `vec` and
+-- `labs` report, and `ends` and `jsrl` fit what the clock met
 abbrev pub PinsTell : Type 0
 PinsTell = (clocks : List Pins) (pins : Pins) → All ArePins (pins ∷ clocks) → pins.reset ≡ 0 → pins.start ≡ 0
     → (older : Agrees clocks) × (newer : Agrees (pins ∷ clocks)) × (added : List Move)
     × (moves_of newer.run ≡ moves_of older.run ++ added) × TellsMoves (after clocks) pins added
     × TellsKind newer.found older.run.held (after clocks) pins
 
--- in those they tell of nothing
+-- in a clock with a reset or a start, `ends`, `jsrl`, `labs` and `vec` are 0
 abbrev pub PinsRest : Type 0
 PinsRest = (core : Core) (pins : Pins) → (pins.reset ≡ 1) ⊎ (pins.start ≡ 1) → (pin.ends core pins ≡ 0)
     × (pin.jsrl core pins ≡ 0) × (labs core pins ≡ 0) × (vec core pins ≡ 0)

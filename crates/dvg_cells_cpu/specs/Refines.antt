@@ -170,7 +170,7 @@ abbrev pub AreAmid : Cells → List Cycle → Type 0
 AreAmid cells [] = Unit {0}
 AreAmid cells (cycle ∷ later) = (sync cells ≡ 0) × AreAmid (clock cells (pins_of cycle)) later
 
--- it is high in the first one alone, in which the opcode is read
+-- `sync` is high only in the first of these cycles, the one that reads the opcode
 abbrev pub ShowsOpcode : Cells → List Cycle → Type 0
 ShowsOpcode cells [] = Unit {0}
 ShowsOpcode cells (cycle ∷ later) = (sync cells ≡ 1) × AreAmid (clock cells (pins_of cycle)) later

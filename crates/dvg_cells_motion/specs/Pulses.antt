@@ -12,7 +12,7 @@ use Rattle.dvg_gen.specs.Position.{IsBeam}
 use Rattle.dvg_cells_core.specs.Cells.{mux, part, bit, some}
 use Rattle.dvg_cells_motion.specs.Motion.{Motion, Pins, clock, going, dac_x, dac_y, lit, shown_z}
 
--- the bit that a count lets through: the lowest bit that is 0 selects it
+-- a binary rate multiplier: if bit k is the lowest 0 of the count, bit 9 - k of the rate; else 0
 abbrev pub pulse : ℕ → ℕ → ℕ
 pulse rate count =
     mux (part 0 1 count) (mux (part 1 1 count) (mux (part 2 1 count) (mux (part 3 1 count) (mux (part 4 1 count)
@@ -125,8 +125,8 @@ abbrev pub visible : Bool → ℕ → ℕ → ℕ → ℕ
 visible false x y z = 0
 visible true x y z = if nat_eq (x / 1024 % 2) 0 then if nat_eq (y / 1024 % 2) 0 then z else 0 else 0
 
--- what the monitor gets: ten bits of each counter, and the vector's intensity until its last tick, with `lit` where that
--- isn't 0
+-- what the monitor gets: ten bits of each counter and, until the vector's last tick, its intensity
+-- where bit 10 of both counters is 0; `lit` is high where that intensity isn't 0
 abbrev pub Shows : Type 0
 Shows = (motion : Motion) (pins : Pins) (clocks : List Pins) → Fits motion → Tells pins → All IsQuiet clocks
     → (dac_x (moved motion pins clocks) ≡ (moved motion pins clocks).x % 1024)

@@ -22,19 +22,19 @@ use Rattle.dvg_device.specs.declared.request.Request.TheVariants as requests
 use Rattle.dvg_device.specs.declared.request.Question.{Question}
 use Rattle.dvg_device.specs.declared.request.Question.TheVariants as questions
 
--- this holds of each history of words, with the low byte after it, that the generator stands after, and of the run that
--- it leaves
+-- this holds of each history of words, with the low byte after it, that the generator stands after,
+-- and of the run that the history leaves
 abbrev pub OfHistories : Machine → (List Told → Option ℕ → Newest → Type 0) → Type 0
 OfHistories machine P = (history : List Told) (low : Option ℕ) (after : HasTaken machine history low)
     → P history low after.run
 
--- which byte is wanted: one of the word at an address, the high one where the low one was fetched; none where no run is
--- open
+-- which byte is wanted: one of the word at an address, the high one if the low one was fetched; or
+-- none, as no run is open
 abbrev pub wanting : Option ℕ → Option ℕ → Reply
 wanting None low = Came Still
 wanting (Some address) low = Wants address (is_some low)
 
--- what came of it, and which byte is wanted next, if any
+-- the reply to a fetch: its entry, and which byte of the word at an address is wanted next, if any
 abbrev pub onward : Entry (Unit {0}) → Option ℕ → Option ℕ → Reply
 onward entry None low = Came entry
 onward entry (Some address) low = Onward entry address (is_some low)

@@ -129,15 +129,15 @@ TakesPart (Some (Line x y z)) old new NoMemory = IsStroke (line_to old x y z) ×
 TakesPart None old new NoState = new ≡ old
 TakesPart part old new reply = ⊥
 
--- a generator can stand as a machine does: it could keep its addresses and words, a low byte waits only in an open run,
--- and its beam is one
+-- a generator can be in this state: it could keep its addresses and its first word, a low byte
+-- waits only in an open run, and the beam is in range
 pub record CanStand (machine : Machine) : Type 0 where
   pub kept : IsKept machine.at machine.held machine.stack
   pub waits : IsSome machine.low → machine.is_open ≡ true
   pub beam : IsBeam machine.beam.x machine.beam.y machine.beam.scale
 
--- a machine can be saved: a generator can stand so, with four return addresses at most, a byte as its low byte, and
--- strokes
+-- a machine can be saved: a generator can be in its state, which has at most four return addresses,
+-- a byte as its low byte, and only strokes in what was drawn so far
 pub record CanBeSaved (machine : Machine) : Type 0 where
   pub stands : CanStand machine
   pub four : length machine.stack ≤ 4

@@ -55,8 +55,8 @@ pub record StaysStillWrapped (wrapped later : Wrapped) (reply : Reply) : Type 0 
 abbrev pub saved_of : Wrapped → Machine
 saved_of wrapped = with_stack wrapped.registers wrapped.machine
 
--- a generator whose stack wraps can begin in what was told of a machine: a generator can stand so, with four return
--- addresses
+-- a generator whose stack wraps can begin in what was told of a machine: a generator can be in that
+-- state, which has four return addresses
 abbrev pub CanWrap : Machine → Type 0
 CanWrap machine = CanStand machine × (length machine.stack ≡ STACK_DEPTH)
 

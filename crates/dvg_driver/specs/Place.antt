@@ -20,7 +20,7 @@ abbrev pub with_left : List (ℕ × ℕ) → Place
 with_left [] = Waiting false
 with_left (write ∷ writes) = Writing (write ∷ writes)
 
--- the place after a write, if it is the first of those that were to come
+-- the place after a write of this byte at this address, if that write was the next one to come
 abbrev pub after_write : List (ℕ × ℕ) → ℕ → ℕ → Option Place
 after_write [] a byte = None
 after_write (write ∷ writes) a byte = if nat_eq write.0 a && nat_eq write.1 byte then Some (with_left writes) else None

@@ -68,7 +68,7 @@ abbrev pub WritesNoByte : Stage → Type 0
 WritesNoByte stage = (writes : List (ℕ × ℕ)) → stage.place ≡ Writing writes
     → length writes ≤ length (word_zero (other stage.half) (not stage.flipped))
 
--- it is a write of word zero
+-- the action writes a byte of word zero
 abbrev pub WritesWordZero : Action → Type 0
 WritesWordZero (Wrote a byte) = a < 2
 WritesWordZero action = ⊥

@@ -8,8 +8,8 @@ use Rattle.dvg_dump.specs.Ends.{End, Ends, drawn_by}
 use Rattle.dvg_dump.specs.Traces.{trace}
 use Rattle.dvg_dump.specs.Units.{recorded_moves}
 
--- the run over a memory of words ends in one way at least, and over any memory in one at most, after the same
--- instructions
+-- the run over a memory of words ends in at least one way, and that over any memory in at most one,
+-- after the same instructions
 abbrev pub OneEnd : Type 0
 OneEnd = ((memory : ℕ → Option ℕ) → ((address : ℕ) → IfSome (memory address) IsWord)
     → (visits : List Visit) × (end : End) × Ends memory visits end)

@@ -29,8 +29,8 @@ run_at address code canonical before = record {
   stroke = slice_get (drawn before code) 0;
 }
 
--- an instruction of a run over a memory, from the beam before it: it is canonical where its canonical words stand at
--- its place
+-- an instruction of a run over a memory, from the beam before it: it is canonical if the memory has
+-- its canonical words at its place
 abbrev pub ran_of : (ℕ → Option ℕ) → Beam → Visit → Ran
 ran_of memory before visit = run_at visit.place visit.code (stand_at memory visit.place (canon visit.code)) before
 

@@ -54,8 +54,8 @@ abbrev pub words_by : Option ℕ → ℕ → List ℕ
 words_by None word = word ∷ []
 words_by (Some first) word = first ∷ word ∷ []
 
--- the tracer is where the run is: it holds the same first word, has the same beam, and has recorded
--- its instructions
+-- the tracer is where the run is: it holds the same first word, has the same beam, and has
+-- recorded the run's instructions
 pub record IsBeside (memory : ℕ → Option ℕ) (visits : List Visit) (held : Option ℕ) (trail : Trail) : Type 0 where
   pub held_is : trail.held ≡ held
   pub address_is : (first : ℕ) → held ≡ Some first → trail.address ≡ next visits

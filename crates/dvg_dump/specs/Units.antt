@@ -47,6 +47,6 @@ pub record Course : Type 0 where
 abbrev pub setting_out : Bool → Course
 setting_out units = record { units = units; beam = nothing.first; counters = origin }
 
--- the moves of the instructions that it comes to
+-- the moves of these instructions, which the course comes to next, in its unit
 abbrev pub moves_ahead : Course → List Ran → List Move
 moves_ahead course ran = units_if course.units course.counters (recorded_moves course.beam ran)

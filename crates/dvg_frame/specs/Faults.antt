@@ -53,8 +53,8 @@ pub record FrameState : Type 0 where
   pub operations : List OpKind
   pub bound : ℕ
 
--- what the check answers: a frame of the draft with its bound, where there is no fault, and else the fault that is
--- picked
+-- what the check answers: if there is no fault, a frame of the draft with its bound; else the fault
+-- that is picked
 abbrev pub IsChecked : List OpKind → List ℕ → Result FrameState FrameFault → Type 0
 IsChecked F R (Ok frame) = Accepts F R × (frame.operations ≡ F) × IsBound F R frame.bound
 IsChecked F R (Err fault) = Refuses F R fault

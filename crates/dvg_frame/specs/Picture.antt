@@ -1,5 +1,5 @@
--- What a draft draws, by its operations and the ROM's instructions: no stack, no address of the RAM and no memory that
--- changes.
+-- What a draft draws, by its operations and the ROM's instructions: without a stack, an address of
+-- the RAM, or a memory that changes.
 use Rattle.std.specs.Prelude.{◌≡◌, ℕ, suc, ◌+◌, List, [], ◌++◌}
 use Rattle.dvg_code.specs.declared.instr.Instr.{Instr}
 use Rattle.dvg_code.specs.Spelling.{word_count}

@@ -9,13 +9,13 @@ pub record IsSpared (s b : ℕ) : Type 0 where
   pub bound : is_free b ≡ false
   pub above : (b < 0x100) ⊎ (0x100 + s < b)
 
--- each step of an NMI's routine leaves those as they were
+-- each step of an NMI's routine leaves spared bytes as they were
 abbrev pub NmiSpares : Type 0
 NmiSpares = (rom : ℕ → ℕ) (start : ℕ) (notes : Notes) → accepts rom start notes ≡ true → (st : State) (came : Came)
     → IsRun rom start st → st.amid ≡ Some came → (choice : Choice) → restarts st ≡ false
     → (b : ℕ) → IsSpared came.s b → (step choice st).mem b ≡ st.mem b
 
--- they are all that is guarded amid a call of the driver that began with this S, if tables stand in the ROM
+-- each byte guarded amid a driver's call that began with this S is spared, if tables are in the ROM
 abbrev pub GuardIsSpared : Type 0
 GuardIsSpared = (tables : ℕ → Bool) → ((b : ℕ) → tables b ≡ true → 0x4800 ≤ b) → (s now : ℕ) → s ≤ 255
     → (now ≡ s) ⊎ (now + 2 ≡ s) → (b : ℕ) → guards (is_kept tables) s now b ≡ true → IsSpared now b

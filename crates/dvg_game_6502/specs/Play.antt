@@ -43,10 +43,10 @@ pub record Begins (rom : ℕ → ℕ) (start : ℕ) (cpu : Cpu) : Type 0 where
   pub stack : cpu.s ≡ 255
   pub bytes : AreBytes cpu
 
--- all that it may do up to the next reset, or a JMP there: with how many instructions came since the last NMI, and the
--- driver's accesses, the newest first. The flag answers with any byte. An NMI may come between any two instructions, 860
--- after the last one; the first one comes at any time. And at any time switches, coins and all else outside turn to any
--- bytes
+-- all that a program may do up to the next reset, or a JMP there: with how many instructions came
+-- since the last NMI, and the driver's accesses, the newest first. The flag answers with any byte.
+-- An NMI may come between any two instructions, at least 860 after the one before; the first may
+-- come at any time. Switches, coins and all else outside may turn to any bytes at any time
 pub data IsPlay (rom : ℕ → ℕ) (start : ℕ) : Cpu → ℕ → List Access → Type 0 where
   begins : (cpu : Cpu) (since : ℕ) → Begins rom start cpu → IsPlay rom start cpu since []
   does : {cpu : Cpu} {since : ℕ} {log : List Access} (flags : ℕ → ℕ) → IsPlay rom start cpu since log

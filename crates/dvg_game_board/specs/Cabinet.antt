@@ -19,8 +19,8 @@ written (Reads a byte ∷ log) = written log
 written (Writes a byte ∷ log) =
     let rest = written log in if is_ram a || nat_eq a strobe_place then Writes a byte ∷ rest else rest
 
--- what an instruction does with the board: of the driver's code each access of the hardware, of all other code what it
--- writes there
+-- what an instruction does with the board: if it is the driver's, each access of the hardware; else
+-- each write of the vector RAM or of the strobe
 abbrev pub touched : Cpu → Cpu → List Access
 touched cpu new = if is_code cpu.pc then seen new.log else written new.log
 

@@ -50,8 +50,8 @@ VectorsKeep = (R image : List ℕ) (held rom : ℕ → ℕ) (start : ℕ) (notes
     → (at : Option (Cpu × ℕ)) (clocks : List Bus) → IsCabinet R image held rom start at clocks
     → Keeps R image held clocks
 
--- where two tests of a game's bytes say so, with notes of them that nobody has to trust, and with no premise on what it
--- does
+-- where two tests of a game's bytes say so, with notes of them that nobody has to trust, and with
+-- no premise on what the game does
 abbrev pub GamesKeepByBytes : Type 0
 GamesKeepByBytes = (R image : List ℕ) (held rom : ℕ → ℕ) (start : ℕ) (notes : Notes) (ways : Ways)
     (drafts : ℕ → List OpKind) → accepts rom start notes ≡ true → brings R rom start notes ways drafts ≡ true

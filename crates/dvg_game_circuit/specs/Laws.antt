@@ -1,5 +1,5 @@
--- Each run of the circuit is one of cells of a machine, with no premise on memory and NMIs; and so a game on it has none but its
--- bytes.
+-- Each run of the circuit is a run of a machine of cells, with no premise on memory and NMIs. So a
+-- game's law on the circuit has no premise but the game's bytes.
 use Rattle.std.specs.Prelude.{◌≡◌, ℕ, ◌+◌, ◌%◌, ◌<◌, true, All, List, length, slice_index}
 use Rattle.dvg_mem.specs.Memory.{IsImage, IsRom}
 use Rattle.dvg_frame.specs.declared.op.OpKind.{OpKind}
@@ -42,7 +42,7 @@ Asteroid = KeepsOnCircuit asteroid_content.shapes asteroid.rom asteroid.start
 abbrev pub Rocks : Type 0
 Rocks = KeepsOnCircuit rocks_content.shapes rocks.rom rocks.start
 
--- a game's ROM, with its vector ROM at each 2,048 bytes below the program; and what its two files make of the memories
+-- a game's ROM, its vector ROM repeated beside the program; and the memories that these two fill
 abbrev pub with_shapes : (R : List ℕ) → (rom : (ℕ → ℕ) → ℕ → ℕ) → ℕ → ℕ
 with_shapes R rom = rom (λ a. slice_index R (a % 0x800))
 

@@ -36,8 +36,8 @@ abbrev pub WaitsInRun : (has_low is_open : Bool) → Type 0
 WaitsInRun true is_open = is_open ≡ true
 WaitsInRun false is_open = Unit {0}
 
--- a machine is in an open run: it is at the run's next word, and its stack has the address past each call that is still
--- open
+-- a machine is in an open run: it is at the run's next word, and its stack has the address past
+-- each call that is still open
 pub record IsInRun (machine : Machine) (run : Newest) : Type 0 where
   pub at : machine.at ≡ wanted run.visits run.held
   pub held : machine.held ≡ run.held
@@ -45,8 +45,8 @@ pub record IsInRun (machine : Machine) (run : Newest) : Type 0 where
   pub count : calls run.visits ≡ returns run.visits + length machine.stack
   pub brackets : (k : ℕ) → k < length machine.stack → slice_index machine.stack k ≡ past_call k run.visits
 
--- a machine stands at a run: its beam is the one that all instructions so far left, and where the run is open it is in
--- it
+-- a machine stands at a run: its beam is the one that all instructions so far left and, if the run
+-- is open, the machine is in that run
 pub record IsAtRun (machine : Machine) (run : Newest) : Type 0 where
   pub is_open : machine.is_open ≡ run.is_open
   pub beam : machine.beam ≡ beam_after run.first run.visits

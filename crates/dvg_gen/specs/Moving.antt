@@ -20,8 +20,8 @@ abbrev pub going : Beam → Beam → ℕ → Bool → ℕ → Move
 going from to z placed address =
     record { x0 = from.x; y0 = from.y; x1 = to.x; y1 = to.y; z = z; placed = placed; address = address }
 
--- what an instruction at an address did to the beam: a vector moved it, LABS placed it unseen, and the others did
--- nothing
+-- what an instruction at an address did to the beam: a vector moved it, a LABS placed it unseen,
+-- and the others did nothing
 abbrev pub made : Beam → ℕ → Instr → List Move
 made beam address (Vctr scale dx dy z) = going beam (moved beam (Vctr scale dx dy z)) z false address ∷ []
 made beam address (Labs x y scale) = going beam (moved beam (Labs x y scale)) 0 true address ∷ []

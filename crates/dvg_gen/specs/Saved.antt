@@ -41,8 +41,8 @@ machine_of state strokes picture = record {
   is_open = state.is_open;
 }
 
--- the same where the stack wraps: the machine in it saves no address, and the registers are the return addresses,
--- newest first
+-- the same where the stack wraps: the machine in it has no return addresses, as the registers are
+-- the state's return addresses, the newest first
 abbrev pub wrapped_of : GeneratorState → List Stroke → List Stroke → Wrapped
 wrapped_of state strokes picture = record {
   machine = record (machine_of state strokes picture) { stack = [] };

@@ -80,8 +80,8 @@ pub record IsAlike (run other : Newest) : Type 0 where
   pub beam : beam_after other.first other.visits ≡ beam_after run.first run.visits
   pub strokes : strokes other.first other.visits ≡ strokes run.first run.visits
 
--- a run that no fifth call and no return without a call broke is alike where the stack wraps, whatever broke the ones
--- before it
+-- a run that neither a fifth call nor a return without a call broke is alike where the stack wraps,
+-- whatever broke the runs before it
 abbrev pub WrapsAlike : Type 0
 WrapsAlike = (history told : List Told) (registers : List ℕ) (run other : Newest) → Leaves history run
     → Wraps history told registers → Leaves told other → ((fault : GenFault) → fate run.visits ≡ Breaks fault → ⊥)

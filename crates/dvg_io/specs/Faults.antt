@@ -17,6 +17,6 @@ StopsBeforeWriting (Text (Cut place)) = ⊥
 StopsBeforeWriting Writer = ⊥
 StopsBeforeWriting _ = Unit {0}
 
--- all faults but that of the writer: where a text is found whole before it is written
+-- the faults before the first write, of an engine that has its whole text before it writes
 abbrev pub ComesBeforeText : ToolFault → Type 0
 ComesBeforeText fault = fault ≢ Writer

@@ -9,8 +9,8 @@ use Rattle.dvg_io.specs.declared.fault.ToolFault.TheVariants.{Text, Reader, Writ
 use Rattle.dvg_io.specs.declared.watched.Watched.{Watched}
 use Rattle.dvg_io.specs.Watching.{BeginsToWrite, TakesAtMost, failures_of, stream_of}
 
--- this holds of each input of which these bytes are read: the whole input, or one byte more than
--- the most
+-- this holds of each input of which these bytes are read: the whole input, or its first
+-- `most` + 1 bytes
 abbrev pub OfInput : (most : ℕ) → (read : List ℕ) → (List ℕ → Type 0) → Type 0
 OfInput most read Holds = (input : List ℕ) → read ≡ take (most + 1) input → Holds input
 

@@ -19,8 +19,8 @@ one_more count = min (count + 1) (2 ^ 32 - 1)
 abbrev pub CountsErrors : {V E : Type 0} → Result V E → ℕ → ℕ → Type 0
 CountsErrors answer old new = MatchResult answer (λ _. new ≡ old) (λ _. new ≡ one_more old)
 
--- of the bytes that a reader is known to have left, some at its front were taken, no more than this
--- many
+-- some bytes were taken from the front of those that a reader is known to have left: at most this
+-- many of them
 abbrev pub TakesAtMost : ℕ → Option (List ℕ) → Option (List ℕ) → Type 0
 TakesAtMost most old new = (taken : List ℕ) × (length taken ≤ most) × Consumes old new taken
 

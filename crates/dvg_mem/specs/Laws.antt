@@ -12,8 +12,8 @@ abbrev pub OneArea : Type 0
 OneArea = (first w : ℕ) → 0x400 ≤ first → first ≤ 0xBFF → w ≤ 0xFFF
     → (one : Area) × IsInMap first one w × ((also : Area) → IsInMap first also w → also ≡ one)
 
--- word zero with a half's high byte over the low byte 01 is a jump to the half's first word, and the high byte names
--- the half
+-- word zero with a half's high byte over the low byte 01 is a jump to the half's first word, and
+-- the high byte names the half
 abbrev pub HighNamesHalf : Type 0
 HighNamesHalf = (half : Half) → (0x01 + 256 * high half ≡ 0xE000 + base half) × (half_of_high (high half) ≡ half)
 

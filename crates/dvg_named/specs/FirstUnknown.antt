@@ -45,7 +45,7 @@ pub record WantsRow (laid : List Laid) (section : Section) (row : Row) : Type 0 
 abbrev pub WantsNone : List Laid → Section → Type 0
 WantsNone laid section = (place : ℕ) → ¬ WantsAt laid section place
 
--- why the drafts of the frames aren't made: a name that is wanted isn't given, or want of memory
+-- why no drafts are made of the frames: a row needs a name that isn't given, or memory is refused
 abbrev pub StopsDrafts : {A : Type 0} → List Laid → Reading A → DraftFault → Type 0
 StopsDrafts laid reading UnknownName = ¬ All (WantsNone laid) (sections_in reading)
 StopsDrafts laid reading Memory = Unit {0}

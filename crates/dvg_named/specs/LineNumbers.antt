@@ -50,12 +50,12 @@ first_head (first ∷ others) last = first.head
 abbrev pub head_at_top : {A : Type 0} → Reading A → Option held_head.Head
 head_at_top reading = first_head reading.closed.items reading.last
 
--- no row more is held
+-- the reader holds the same rows as before
 pub record KeepsEntries {A : Type 0} (old new : Reading A) : Type 0 where
   pub top : head_at_top new ≡ head_at_top old
   pub entries : entries_in new ≡ entries_in old
 
--- a row more is held, in the last section
+-- the reader holds one more row, in the last section
 pub record AddsEntry {A : Type 0} (old : Reading A) (row : Row) (number : ℕ) (new : Reading A) : Type 0 where
   pub top : head_at_top new ≡ head_at_top old
   pub entries : entries_in new

@@ -46,8 +46,8 @@ pub record IsPut (laid : List Laid) (section : Laid) (first : ℕ) (old new : Li
 abbrev pub PutsSection : List held_laid.LaidRows → held_laid.LaidRows → (first : ℕ) → (old new : List ℕ) → Type 0
 PutsSection sections section = IsPut (laid_sections sections) (laid_section section)
 
--- the bytes are those of the ROM that is stated, where these sections give their words after its
--- lines
+-- the bytes are those of the ROM that is stated, where these sections give their words after
+-- the lines that state it
 pub record TellsSections (laid sections : List Laid) (stated : RomText) (bytes : List ℕ) : Type 0 where
   pub lines : List RomLine
   pub given : AllZip (IsGiven laid) sections lines

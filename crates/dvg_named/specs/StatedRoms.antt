@@ -6,7 +6,7 @@ use Rattle.dvg_read.specs.RomTexts.{RomText, first_stated}
 use Rattle.dvg_named.specs.declared.stated_rom.StatedRom.{StatedRom}
 use Rattle.dvg_named.specs.Places.{free_after}
 
--- the same, as the reader of drafts holds it
+-- what is stated of the ROM, as the reader of drafts holds it
 abbrev pub as_drafted : StatedRom → held_text.RomReading
 as_drafted held = record { is_stated = held.is_stated; bytes = held.bytes }
 

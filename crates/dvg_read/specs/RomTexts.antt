@@ -27,8 +27,8 @@ pub data IsMapLine : (first : ℕ) → List ℕ → Type 0 where
   small : IsMapLine 0x800 (codes "map 2048")
   large : IsMapLine 0x400 (codes "map 4096")
 
--- what a text says of the ROM: the word address of its first word, where a line gives the map, and the words that lines
--- give
+-- what a text says of the ROM: the word address of its first word, if a line gives the map, and the
+-- words that lines give
 pub record RomText : Type 0 where
   pub map : Option ℕ
   pub given : List RomLine

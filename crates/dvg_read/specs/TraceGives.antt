@@ -92,7 +92,7 @@ pub record ReadsOps {A : Type 0} (old : TraceReading A) (left : List (List ℕ))
   pub events : events_read new ≡ events_read old
   pub rom : new.rom ≡ old.rom
 
--- lines were read, so many, and these are left: lines of events, or of operations
+-- so many of these lines were read, all of events or all of operations, and `rest` is left
 pub data ReadsAhead {A : Type 0} (old : TraceReading A) (left : List (List ℕ)) (count : ℕ)
     (new : TraceReading A)
     (rest : List (List ℕ)) : Type 0 where

@@ -9,7 +9,7 @@ use Rattle.dvg_rows.specs.declared.name_table.NameTable.{NameTable}
 abbrev pub is_same : Bor (List ℕ) → Bor (List ℕ) → Bool
 is_same name other = pointwise nat_eq name.now other.now
 
--- how many of these names stand before the first that is the same as this one, if there is one
+-- the index, from 0, of the first of these names that is the same as this one, if there is one
 abbrev pub place_in : List (Bor (List ℕ)) → Bor (List ℕ) → Option ℕ
 place_in names name = position (is_same name) names
 

@@ -30,7 +30,7 @@ tokens line = filter is_some_byte (slice_split is_blank (uncommented (strip_carr
 abbrev pub plain : List ℕ → List ℕ
 plain line = join_with_byte 32 (tokens line)
 
--- the lines of a text in small letters, each as a plain draft has it; a line without tokens is
--- empty
+-- the lines of a text in small letters, each as a plain draft has it;
+-- a line without tokens is empty
 abbrev pub plain_lines : List ℕ → List (List ℕ)
 plain_lines text = map plain (lines (map to_ascii_lowercase text))

@@ -15,8 +15,8 @@ use Rattle.dvg_io.specs.declared.fault.ToolFault.{ToolFault}
 use Rattle.dvg_io.specs.declared.fault.ToolFault.TheVariants.{Text, Reader, Writer, Memory}
 use Rattle.dvg_tool.specs.declared.lists.TheConstants.{MOST_LIST_BYTES}
 
--- the line of the instruction that stands at a place of the words, listed at this address (for a
--- private contract)
+-- the line of the instruction that stands at a place of the words, listed at this address
+-- (for a private contract)
 abbrev pub line_at : (words : List ℕ) → (place address : ℕ) → Instr → List ℕ
 line_at words place address instr = line_text address instr (starts_with nat_eq (drop place words) (canon instr))
 

@@ -64,8 +64,8 @@ pub record ShowsUntil (all : Bool) (text : List ℕ) (Ends : List ℕ → Log �
   pub ends : Ends played.R log later
   pub holds : Holds (log_text all log)
 
--- this is what is shown of a log that was played, and it is whole, or stopped for want of memory (for a private
--- contract)
+-- this is what is shown of a log that was played, which is whole, or stopped for want of memory
+-- (for a private contract)
 abbrev pub IsShown : (all is_whole : Bool) → (text : List ℕ) → (shown : List ℕ) → Type 0
 IsShown all is_whole text shown =
     ShowsUntil all text (λ R log later. IsEndOf is_whole R zeros log later) (λ log. shown ≡ log)

@@ -34,8 +34,8 @@ OfferAnswers R F driver later Offered = Accepts F R × OfLives driver (λ peeked
     × StandsAfter later.stage peeked (script.Offered (other (half_of_high (byte1_of peeked life))) F ∷ life))
 OfferAnswers R F driver later entry = ⊥
 
--- a redraw: there is nothing to draw again before the life's first flip; then it goes on the life where that is of
--- whole parts
+-- a redraw: before the life's first flip there is nothing to draw again. After it, the redraw is
+-- taken where the life is of whole parts, and else the driver is busy
 abbrev pub RedrawAnswers : Driving → Driving → Entry (Unit {0}) → Type 0
 RedrawAnswers driver later NothingPublished =
     (later ≡ driver) × OfLives driver (λ peeked life. has_flip life ≡ false)

@@ -11,8 +11,8 @@ use Rattle.dvg_world.specs.Keeping.{Happened, entries_in, pictures_of}
 abbrev pub picture_seen : {A : Type 0} → Picture A → ℕ × List Stroke
 picture_seen picture = (picture.event, picture.strokes.items)
 
--- these are the pictures of a legal log of the events, or of the first of them, and each line of the log keeps the
--- headline
+-- these are the pictures of a legal log of the events, or of the first of them, and each line of
+-- the log keeps the headline
 abbrev pub Draws : {A : Type 0} → (R image : List ℕ) → (events : List Happening) → Drawn A → Type 0
 Draws R image events drawn =
     Happened R image events drawn.is_whole (λ log. map picture_seen drawn.pictures.items ≡ pictures_of log)

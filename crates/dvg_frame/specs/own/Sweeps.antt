@@ -53,8 +53,8 @@ abbrev pub IsUpTo : Option Found → Pair → Type 0
 IsUpTo None pair = ⊥
 IsUpTo (Some found) pair = index found.pair ≤ index pair
 
--- a pair was looked at: what a fine one leads to is in the list, and one with a fault does not come before what was
--- found
+-- a pair was looked at: if it is fine, what it leads to is in the list; if it has a fault, the pair
+-- that was found comes no later
 pub record IsDone (F : List OpKind) (R : List ℕ) (items : List Pair) (best : Option Found) (pair : Pair) : Type 0 where
   pub fine : FinePair F R pair → (next : Pair) → LeadsTo F R pair next → Contains items next
   pub bad : (fault : FrameFault) → BadPair F R pair fault → IsUpTo best pair

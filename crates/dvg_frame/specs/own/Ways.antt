@@ -36,7 +36,7 @@ span (Call to after) = Into to
 span Return = Over 1
 span Halt = Over 1
 
--- something stands at this place that leads on in this way
+-- the operation or instruction at this place leads on in this way
 pub record StandsSo (F : List OpKind) (R : List ℕ) (p : Place) (seen : Way) : Type 0 where
   pub act : Act Place
   pub after : Place

@@ -32,8 +32,8 @@ BringsNothing event = Unit {0}
 abbrev pub IsRunIn : (offers images : ℕ) → Run → Type 0
 IsRunIn offers images run = (1 ≤ run.times) × IsWithin offers images run.step
 
--- runs, where the operations of their offers lie, these operations, each of which a draft may hold, and the images of
--- their resets
+-- runs, the places of their offers among these operations, each of which a draft may hold, and the
+-- images of their resets
 pub record AreRuns (runs : List Run) (offers : List (ℕ × ℕ)) (ops : List OpKind) (images : List (List ℕ)) : Type 0 where
   pub valid : All IsOp ops
   pub lie : All (IsOfferIn ops) offers
