@@ -112,9 +112,9 @@ pub fn one_life()
     ensures { OneLife }
 {}
 
-/// What a program builds is known in hindsight: where each call that puts a part brings the words
-/// of an operation, the first one of a LABS, there are drafts with which its calls are as the laws
-/// speak of them: what was put, and a HALT, also where a frame is given up.
+/// The drafts that a program builds are known in hindsight. Let each of its calls that puts a part
+/// put the words of an operation, at first those of a LABS. Then there are drafts with which its
+/// calls are those of the other laws: what was put, and a HALT, also where a frame is given up.
 #[tactic(auto, using(crate::proofs::Programs::hindsight))]
 pub fn hindsight()
     ensures { Hindsight }

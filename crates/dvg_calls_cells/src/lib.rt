@@ -71,9 +71,9 @@ pub fn reset_waits()
     ensures processor { CpuWaits }
 {}
 
-/// A run can always go on: by a cycle of the program, whatever its pins are, by a clock in which
-/// the processor waits, and by the next instruction of a call, if the board's answers are what the
-/// call has.
+/// A run can always go on: by a cycle of the program, whatever its pins are; by a clock in which
+/// the processor waits; and by the next instruction of a call, if the board answers each read with
+/// what the call's processor has there.
 pub fn goes_on()
     ensures alone { CellsGoOn }
     ensures waits { CellsWaitOn }

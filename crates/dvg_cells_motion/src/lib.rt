@@ -63,8 +63,9 @@ pub fn halted_tells()
     ensures { HaltedTells }
 {}
 
-/// After a byte `hold` is high for the ticks of what it ends: one of its own, two of a JSRL, and
-/// those of a vector, however short that is. In the tick after them a byte may be fetched again.
+/// Once a byte is taken, `hold` is high for the ticks of the instruction that it ends, if any: one
+/// tick, or two for a JSRL, and then those of a vector, however short the vector is. In the tick
+/// after these a byte may be fetched again.
 #[tactic(auto, using(crate::proofs::Wiring::takes_time_law))]
 pub fn takes_time()
     ensures { TakesTime }

@@ -17,9 +17,9 @@ pub fn onward_taken_apart()
     ensures { OnwardTakenApart }
 {}
 
-/// A part of a state whose fields fit into its word is read in it again, and the number of the
-/// reply that tells it is the request by which another device is told it. Each part of a state that
-/// can be saved fits so.
+/// A part of a state, if its fields fit into its word, is read back from that word. The number of
+/// the reply that tells the part is that of the request which tells it to another device. Each part
+/// of a state that can be saved has fields that fit.
 pub fn parts_are_passed_on()
     ensures read { IsReadAgain }
     ensures passed { IsPassedOn }

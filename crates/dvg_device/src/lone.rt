@@ -93,8 +93,8 @@ fn place_of(generator: &Generator<Global>) -> Reply
     Reply::Point(beam.x, beam.y)
 }
 
-// Returns the reply that says what else `generator` holds, with `returns` return addresses, and
-// whether its stack `wraps`.
+// Returns the reply `Holds` of `generator`: its first word, or 0, its scale, whether it has a low
+// byte and a first word, whether its stack `wraps`, and `returns`, the number of return addresses.
 pub(crate) fn held(generator: &Generator<Global>, returns: u16, wraps: bool) -> Reply
     requires { returns ≤ STACK_DEPTH }
     ensures { result ≡ told_held generator.now returns wraps }

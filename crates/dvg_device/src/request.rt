@@ -133,7 +133,7 @@ pub enum Request {
 }
 
 impl Request {
-    // Returns the request that tells a judge of `line`.
+    // Returns the request that tells a judge of `line`, or `Unknown` where there is no line.
     fn telling(line: Option<JudgeLine>) -> Request
         ensures { result ≡ telling line }
     {
@@ -143,7 +143,7 @@ impl Request {
         }
     }
 
-    // Returns the request by which a world goes on with `fields` of its driver.
+    // Returns the request that resumes a world with `fields`, or `Unknown` where there are none.
     fn resuming(fields: Option<DriverFields>) -> Request
         ensures { result ≡ resuming fields }
     {

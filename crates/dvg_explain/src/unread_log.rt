@@ -53,7 +53,7 @@ enum Advice {
     File(&'static str),
     /// The line is too long.
     Long,
-    /// This.
+    /// A hint, printed as it is.
     Hint(&'static str),
     /// To write what was expected.
     Expected(Logged),

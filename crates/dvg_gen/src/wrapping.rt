@@ -208,7 +208,7 @@ impl<A: Allocator + Copy> WrappingGenerator<A> {
         is_turn.then_some(word)
     }
 
-    // Jumps as `word` does, which is a call or a return.
+    // Executes `word`, a JSRL or an RTSL: jumps, and rotates the registers. Returns `Word`.
     fn turn(&mut self, word: u16) -> Step
         requires in_range { (0xC000 ≤ word) × (word < 0xE000) }
         ensures registers { self.new.registers

@@ -50,12 +50,12 @@ impl<A: Allocator + Copy> Making<A> for Laying {
 }
 
 /// Reads a sketch as text from `reader`: a draft with names, of one or more frames and with
-/// operations of the ROM. Writes it to `writer` as it is laid out in this `form`. Returns what was
-/// laid out, or why a frame is refused; of a refused one nothing is written (the format is this
-/// project's own choice).
+/// operations of the ROM. Lays it out in this `form`, and writes that to `writer`. Returns what was
+/// laid out, or why a frame is refused: then nothing is written (the format is this project's own
+/// choice).
 ///
-/// - A fault of the text: that of the first line at fault. `TooLong`, the text has more than
-///   `MOST_TEXT_BYTES`, of which one more at most is taken, comes before all others, and
+/// - A fault of the text: that of the first line with a mistake. `TooLong` (more than
+///   `MOST_TEXT_BYTES`, of which at most one more is taken) comes before all others, and
 ///   `UnknownName` after them.
 /// - `Reader`, `Writer`: that stream failed. After `Writer` a beginning of the text went out.
 /// - `Memory`: an allocation failed.

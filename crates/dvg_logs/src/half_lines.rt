@@ -14,7 +14,7 @@ use crate::log_line::LogLine;
 use dvg_print::{LogCounts, LogFinding, LogVerdict};
 use dvg_world::Judge;
 
-// Returns what is found in a log of which no line is torn, by its `counts`.
+// Returns the finding for a log that has these `counts` and no torn line.
 fn found(counts: LogCounts) -> LogFinding
     ensures { result ≡ found_in counts }
 {

@@ -87,7 +87,7 @@ fn in_small_letters(line: &[u8]) -> ArrayVec<u8, MOST_LINE_BYTES>
     small
 }
 
-// Returns what `line` says, which is in small letters and isn't passed over.
+// Returns what `line`, which is in small letters, says, or `None` if it is no row of a log.
 fn row(line: &[u8], base: Option<u16>) -> Option<LogLine>
     ensures found { IfSome result (λ logged. LogRow base (line_of logged) (parts line.now)) }
     ensures only { (logged : Line) → LogRow base logged (parts line.now)

@@ -31,8 +31,8 @@ fn of_three(a: u8, b: u8, c: u8) -> u16
     256 * u16::from(a) + u16::from(of_two(b, c))
 }
 
-// Returns the address and the byte that `text` begins with, and what comes after the line's end.
-// All digits are tested at once.
+// Returns the address (three digits) and the byte (two) on the first line of `text`, and the text
+// after that line; else `None`. All digits are tested at once.
 #[inline(always)]
 fn address_and_byte(text: &[u8]) -> Option<(u16, u8, &[u8])>
     ensures { IfSome result (λ found. BeginsWithNumbers 2 found.0 found.1 text.now found.2.now) }

@@ -47,8 +47,8 @@ pub fn legal_is_played()
     ensures { Always IsPlayed }
 {}
 
-/// Whoever drives, nothing that is read contradicts what the log told. So where a reading does, a
-/// writer isn't in the log, or the log isn't that of such a generator.
+/// Whoever drives, no line contradicts what the log before it told. So if a line does, a writer is
+/// missing from the log, or the generator fetched what wasn't in memory.
 #[tactic(auto, using(crate::proofs::Truth::never_contradicts))]
 pub fn never_contradicts()
     ensures { NeverContradicts }

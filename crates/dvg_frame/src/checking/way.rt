@@ -1,4 +1,4 @@
-//! How what stands at a place leads on.
+//! Where a place leads: the successors of the operation or instruction there.
 ghost use Rattle.std.specs.Prelude.{◌≡◌, ◌<◌, ◌≤◌, ◌↔◌, List, IsTrue, MatchOption};
 ghost use Rattle.dvg_mem.specs.Memory.{IsRom, first_word};
 ghost use Rattle.dvg_frame.specs.Steps.{op_act};

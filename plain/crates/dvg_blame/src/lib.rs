@@ -110,8 +110,8 @@ fn tell<A: Allocator + Copy>(
     }
 }
 
-/// Returns the refusal of `frame`, whose picture has so many `words`, at the line of operation 0.
-/// Returns `Memory` where an allocation fails.
+/// Returns the refusal of `frame` with the reason `ManyWords(words)`, and blames the line of
+/// operation 0. Returns `Memory` where an allocation fails.
 pub fn tell_long<A: Allocator + Copy>(
     alloc: A,
     names: &[RomName],

@@ -1136,8 +1136,8 @@ fn place_of(generator: &Generator<Global>) -> Reply {
     Reply::Point(beam.x, beam.y)
 }
 
-// Returns the reply that says what else `generator` holds, with `returns` return addresses, and
-// whether its stack `wraps`.
+// Returns the reply `Holds` of `generator`: its first word, or 0, its scale, whether it has a low
+// byte and a first word, whether its stack `wraps`, and `returns`, the number of return addresses.
 pub(crate) fn held(generator: &Generator<Global>, returns: u16, wraps: bool) -> Reply {
     let first = generator.first_word();
     let scale = u16::from(generator.beam().scale);
@@ -1814,7 +1814,7 @@ pub enum Request {
 }
 
 impl Request {
-    // Returns the request that tells a judge of `line`.
+    // Returns the request that tells a judge of `line`, or `Unknown` where there is no line.
     fn telling(line: Option<JudgeLine>) -> Request {
         match line {
             Some(line) => Request::Tell(line),
@@ -1822,7 +1822,7 @@ impl Request {
         }
     }
 
-    // Returns the request by which a world goes on with `fields` of its driver.
+    // Returns the request that resumes a world with `fields`, or `Unknown` where there are none.
     fn resuming(fields: Option<DriverFields>) -> Request {
         match fields {
             Some(fields) => Request::ResumeWorld(fields),

@@ -71,17 +71,17 @@ use std::alloc::Allocator;
 
 /// What each reader of texts answers to an input: its fault, if it has one.
 pub struct Answers<A: Allocator> {
-    /// That of drafts.
+    /// The fault that the reader of drafts has, if any.
     pub draft: Option<TextFault>,
-    /// That of traces.
+    /// The fault that the reader of traces has, if any.
     pub trace: Option<TextFault>,
-    /// That of sketches.
+    /// The fault that the reader of sketches has, if any.
     pub sketch: Option<TextFault>,
     /// The first frame that the check refuses, of a sketch that is read whole.
     pub refused: Option<RefusedFrame<A>>,
     /// What is odd about a sketch of which it refuses no frame.
     pub remark: Option<Remark>,
-    /// That of logs, whose bytes are written at addresses of the generator.
+    /// The fault that the reader of logs has, if any, with addresses of the generator in `wrote`.
     pub log: Option<TextFault>,
     /// What `torn` says of such a log, or its fault.
     pub judged: Result<LogVerdict, TextFault>,
@@ -3142,7 +3142,7 @@ enum Advice {
     File(&'static str),
     /// The line is too long.
     Long,
-    /// This.
+    /// A hint, printed as it is.
     Hint(&'static str),
     /// To write what was expected.
     Expected(Logged),

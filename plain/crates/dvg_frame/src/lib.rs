@@ -862,7 +862,7 @@ impl Table {
 }
 }
 mod way {
-//! How what stands at a place leads on.
+//! Where a place leads: the successors of the operation or instruction there.
 use crate::draft::words_of;
 use crate::op::{Op, OpKind};
 use crate::place::Place;

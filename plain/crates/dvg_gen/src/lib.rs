@@ -932,7 +932,7 @@ impl<A: Allocator + Copy> WrappingGenerator<A> {
         is_turn.then_some(word)
     }
 
-    // Jumps as `word` does, which is a call or a return.
+    // Executes `word`, a JSRL or an RTSL: jumps, and rotates the registers. Returns `Word`.
     fn turn(&mut self, word: u16) -> Step {
         if word < 0xD000 {
             self.registers.rotate_right(1);

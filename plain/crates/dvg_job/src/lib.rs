@@ -15,7 +15,7 @@ pub struct PictureForm {
     /// Whether each instruction that is run is told, with the beam after it and its stroke, always
     /// in 1/512 of a screen unit.
     pub all: bool,
-    /// Whether each move is told, also one that isn't seen.
+    /// Whether each move is written, blank moves and those of a LABS included.
     pub moves: bool,
     /// Whether moves, and the strokes of a picture, are in whole units, as the counters of
     /// `dvg_gen` have them, and not in 1/512.

@@ -12,7 +12,7 @@ use crate::log_line::LogLine;
 use dvg_print::{LogCounts, LogFinding, LogVerdict};
 use dvg_world::Judge;
 
-// Returns what is found in a log of which no line is torn, by its `counts`.
+// Returns the finding for a log that has these `counts` and no torn line.
 fn found(counts: LogCounts) -> LogFinding {
     if counts.drew == 0 {
         LogFinding::NoRunDrew
@@ -268,7 +268,7 @@ fn in_small_letters(line: &[u8]) -> ArrayVec<u8, MOST_LINE_BYTES> {
     small
 }
 
-// Returns what `line` says, which is in small letters and isn't passed over.
+// Returns what `line`, which is in small letters, says, or `None` if it is no row of a log.
 fn row(line: &[u8], base: Option<u16>) -> Option<LogLine> {
     if let Some(rest) = line.strip_prefix(b"wrote ") {
         let (address, byte) = written(rest, base)?;
@@ -701,8 +701,8 @@ fn of_three(a: u8, b: u8, c: u8) -> u16 {
     256 * u16::from(a) + u16::from(of_two(b, c))
 }
 
-// Returns the address and the byte that `text` begins with, and what comes after the line's end.
-// All digits are tested at once.
+// Returns the address (three digits) and the byte (two) on the first line of `text`, and the text
+// after that line; else `None`. All digits are tested at once.
 #[inline(always)]
 fn address_and_byte(text: &[u8]) -> Option<(u16, u8, &[u8])> {
     let [a, b, c, b' ', d, e, b'\n', rest @ ..] = text else {

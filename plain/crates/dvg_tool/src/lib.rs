@@ -755,7 +755,7 @@ impl<A: Allocator> Answer<A> for Finding<A> {
     }
 }
 
-/// Returns `answer`, what an engine returned, as what is reported of it.
+/// Returns what is reported of an engine's `answer`: a fault stays as it is.
 pub(crate) fn reported<A: Allocator, V: Answer<A>>(
     answer: Result<V, ToolFault>,
 ) -> Result<Done<A>, ToolFault> {
