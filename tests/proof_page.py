@@ -67,7 +67,7 @@ PLANTED = [
      "**Machine** takes a run by whole instructions, and **Ends**",
      "**Ends** takes a run by whole instructions, and **Machine**"),
     ("a file of another crate", "**Fetching**", "**Machine**"),
-    ("a file of another crate, in the table", "dvg_driver: **Places**", "dvg_driver: **Kept**"),
+    ("a file of another crate, in the table", "dvg_driver: **Places**", "dvg_driver: **Linked**"),
 ]
 
 

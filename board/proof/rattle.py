@@ -188,7 +188,7 @@ def proof(crate, name, accepted):
     if not accepted:
         return text
     text = text.replace('start, IsTold}', 'start, IsTold, RunsSafely}')
-    lemma = '\nuse Rattle.dvg_game_rules.proofs.Whole.{checked_is_safe}'
+    lemma = '\nuse Rattle.dvg_game_rules.proofs.RunsAreSafe.{checked_is_safe}'
     return text.replace('\n\npub', lemma + '\n\npub', 1) + RUNS
 
 

@@ -17,16 +17,16 @@ use Rattle.dvg_calls_6502.specs.Holds.{HoldsPlace, IsFeeding}
 use Rattle.dvg_calls_6502.specs.Routines.{Enters, Part, Put, Pair, Labs, Vector, begins, put_by}
 use Rattle.dvg_calls_6502.specs.Calls.{Puts, Close, AreShown, Brings, IsRoomFor, put_on}
 use Rattle.dvg_calls_6502.specs.Build.{IsBuilding, PutsRefuse, OpenRefuses, CloseRefuses, put_items, written}
-use Rattle.dvg_calls_6502.proofs.Running.{returned}
+use Rattle.dvg_calls_6502.proofs.ProcessorRuns.{returned}
 use Rattle.dvg_calls_6502.proofs.Memory.{both_true}
-use Rattle.dvg_calls_6502.proofs.Growing.{same_end}
-use Rattle.dvg_calls_6502.proofs.Ticking.{append_none}
-use Rattle.dvg_calls_6502.proofs.Standing.{Stood}
-use Rattle.dvg_calls_6502.proofs.Going.{GoesTo, append_items, finish}
+use Rattle.dvg_calls_6502.proofs.LogsGrow.{same_end}
+use Rattle.dvg_calls_6502.proofs.TickDoesNext.{append_none}
+use Rattle.dvg_calls_6502.proofs.DriverInMemory.{Stood}
+use Rattle.dvg_calls_6502.proofs.LifeByAccesses.{GoesTo, append_items, finish}
 use Rattle.dvg_calls_6502.proofs.BuildScript.{builds_script}
 use Rattle.dvg_calls_6502.proofs.Building.{BuildsSo, goal_is, goal_low, put_steadily}
 use Rattle.dvg_calls_6502.proofs.Pairing.{pair_steadily, labs_steadily}
-use Rattle.dvg_calls_6502.proofs.Closing.{ClosesSo, close_steadily}
+use Rattle.dvg_calls_6502.proofs.OpenAndClose.{ClosesSo, close_steadily}
 use Rattle.dvg_calls_6502.proofs.Refusing.{Refuses, refused_so, put_refused, pair_refused, labs_refused, full_put, full_pair, full_labs}
 use Rattle.dvg_calls_6502.proofs.Refusing.{open_refused, close_refused}
 use Rattle.dvg_calls_6502.proofs.VectorBuilds.{vector_steadily, refuses_so, no_vector, not_building_vector, full_vector}

@@ -9,7 +9,7 @@ use Rattle.dvg_driver.specs.Place.{Writing, place_of_life, next_place}
 use Rattle.dvg_driver.proofs.Places.{with_left-append, write_fits}
 use Rattle.dvg_calls_6502.specs.Processor.{Writes}
 use Rattle.dvg_calls_6502.specs.Build.{put_items, written, BuildsScript}
-use Rattle.dvg_calls_6502.proofs.Going.{append_items, shown_both}
+use Rattle.dvg_calls_6502.proofs.LifeByAccesses.{append_items, shown_both}
 
 pub builds_script : BuildsScript
 builds_script a [] rest half first life low place =

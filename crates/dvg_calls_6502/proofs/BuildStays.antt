@@ -13,13 +13,13 @@ use Rattle.dvg_calls_6502.specs.Calls.{Routine, Reset, Tick, Ticks, Run, Offer, 
 use Rattle.dvg_calls_6502.specs.Calls.{Follows, UnlessReset, IsSession}
 use Rattle.dvg_calls_6502.specs.Build.{IsBuilding}
 use Rattle.dvg_calls_6502.specs.Decided.{goes_on, StaysBuilding}
-use Rattle.dvg_calls_6502.proofs.Running.{at}
+use Rattle.dvg_calls_6502.proofs.ProcessorRuns.{at}
 use Rattle.dvg_calls_6502.proofs.Memory.{laid, page_of, HasCode, code_known, state_coded, in_code}
-use Rattle.dvg_calls_6502.proofs.Idling.{are_in, StaysTo, after, call_stays}
+use Rattle.dvg_calls_6502.proofs.IdlePhaseStays.{are_in, StaysTo, after, call_stays}
 use Rattle.dvg_calls_6502.proofs.Building.{goal_low, goal_high, place_low, base_low}
 use Rattle.dvg_calls_6502.proofs.Built.{holds_in}
 use Rattle.dvg_calls_6502.proofs.BuildCalls.{not_building}
-use Rattle.dvg_calls_6502.proofs.Found.{held}
+use Rattle.dvg_calls_6502.proofs.DraftsForCalls.{held}
 use Rattle.dvg_calls_6502.proofs.Sessions.{by_reset}
 
 -- at a place, while a frame is being built

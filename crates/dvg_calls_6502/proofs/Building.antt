@@ -10,13 +10,13 @@ use Rattle.dvg_calls_6502.specs.Code.{code, dvg_put}
 use Rattle.dvg_calls_6502.specs.Board.{IsLoaded, seen, goal_in, is_own, is_ram}
 use Rattle.dvg_calls_6502.specs.Routines.{Enters}
 use Rattle.dvg_calls_6502.specs.Build.{IsBuilding, Builds, PutTakes}
-use Rattle.dvg_calls_6502.proofs.Running.{Comes, at, returned}
+use Rattle.dvg_calls_6502.proofs.ProcessorRuns.{Comes, at, returned}
 use Rattle.dvg_calls_6502.proofs.Memory.{AreSmall, page_in, laid, page_of, loaded, put_small, in_page, in_code, state_is, known, same_out, small_page}
 use Rattle.dvg_calls_6502.proofs.StoredByte.{carried}
 use Rattle.dvg_calls_6502.proofs.TableTick.{in_ram, carried_small}
-use Rattle.dvg_calls_6502.proofs.Alike.{alike_if, Keeping}
+use Rattle.dvg_calls_6502.proofs.AmidOthers.{alike_if, Keeping}
 use Rattle.dvg_calls_6502.proofs.BuildRun.{put_room, is_full}
-pub use Rattle.dvg_calls_6502.proofs.Begun.{base_low}
+pub use Rattle.dvg_calls_6502.proofs.TableBegins.{base_low}
 
 -- a part is put, by a call that keeps byte 001 and takes guarded bytes alone
 abbrev pub BuildsSo : (cpu : Cpu) (half : Half) (flipped : Bool) (now rest : List ℕ) → Type 0

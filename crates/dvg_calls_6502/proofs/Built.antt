@@ -13,13 +13,13 @@ use Rattle.dvg_calls_6502.specs.Board.{IsLoaded, is_own, is_ram, is_hardware, go
 use Rattle.dvg_calls_6502.specs.Holds.{Holds, HoldsPlace}
 use Rattle.dvg_calls_6502.specs.Routines.{IsBusy}
 use Rattle.dvg_calls_6502.specs.Build.{IsBuilding}
-use Rattle.dvg_calls_6502.proofs.Running.{at, returned}
+use Rattle.dvg_calls_6502.proofs.ProcessorRuns.{at, returned}
 use Rattle.dvg_calls_6502.proofs.Memory.{laid, page_of, phase_is}
-use Rattle.dvg_calls_6502.proofs.Standing.{Stood, stood_on}
-use Rattle.dvg_calls_6502.proofs.Going.{Claim, GoesTo, stood_in, goes_as, idle_stretch, finish}
+use Rattle.dvg_calls_6502.proofs.DriverInMemory.{Stood, stood_on}
+use Rattle.dvg_calls_6502.proofs.LifeByAccesses.{Claim, GoesTo, stood_in, goes_as, idle_stretch, finish}
 use Rattle.dvg_calls_6502.proofs.TickCall.{TickMakes, GoesByTicks, stood_ticks}
 use Rattle.dvg_calls_6502.proofs.TicksRun.{Leaves}
-use Rattle.dvg_calls_6502.proofs.Growing.{same_end}
+use Rattle.dvg_calls_6502.proofs.LogsGrow.{same_end}
 use Rattle.dvg_calls_6502.proofs.DvgRun.{run_spares, run_goes}
 use Rattle.dvg_calls_6502.proofs.Offering.{not_idle}
 

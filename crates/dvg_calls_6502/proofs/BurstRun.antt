@@ -9,7 +9,7 @@ use Rattle.dvg_calls_6502.specs.Board.{seen, is_hardware}
 use Rattle.dvg_calls_6502.specs.Feed.{moved_byte, put_for, second_then, second_byte}
 use Rattle.dvg_calls_6502.specs.Holds.{publish_byte}
 use Rattle.dvg_calls_6502.specs.Amid.{is_kept, are_steady, all_in}
-use Rattle.dvg_calls_6502.proofs.Running.{at, run_more, steady_more, IsSteady}
+use Rattle.dvg_calls_6502.proofs.ProcessorRuns.{at, run_more, steady_more, IsSteady}
 use Rattle.dvg_calls_6502.proofs.Memory.{laid, page_of, put_page, put_out, in_page, in_code, both_true}
 use Rattle.dvg_calls_6502.proofs.StoredByte.{phase_then, carried}
 use Rattle.dvg_calls_6502.proofs.FedByte.{compared, stays, byte_read, flags_then, taken}

@@ -17,7 +17,7 @@ use Rattle.dvg_calls_6502.specs.Holds.{HoldsPlace, IsFeeding, publish_byte}
 use Rattle.dvg_calls_6502.proofs.Memory.{laid, page_of}
 use Rattle.dvg_calls_6502.proofs.StoredByte.{phase_then, carried}
 use Rattle.dvg_calls_6502.proofs.TableTick.{step}
-use Rattle.dvg_calls_6502.proofs.Standing.{Stood}
+use Rattle.dvg_calls_6502.proofs.DriverInMemory.{Stood}
 
 -- the driver's bytes after a byte of a table was written
 abbrev pub stepped_page : (ℕ → ℕ) → (odd second : Bool) → ℕ → List ℕ

@@ -9,14 +9,14 @@ use Rattle.dvg_calls_6502.specs.Processor.{Cpu, Access, Writes, put}
 use Rattle.dvg_calls_6502.specs.Board.{IsLoaded, seen, is_own, is_hardware, source_in, goal_in}
 use Rattle.dvg_calls_6502.specs.Feed.{put_for, second_then, second_byte}
 use Rattle.dvg_calls_6502.specs.Holds.{publish_byte}
-use Rattle.dvg_calls_6502.proofs.Running.{at}
+use Rattle.dvg_calls_6502.proofs.ProcessorRuns.{at}
 use Rattle.dvg_calls_6502.proofs.Memory.{AreSmall, laid, page_of, page_in, in_page, in_code, known, loaded, put_small, small_page}
 use Rattle.dvg_calls_6502.proofs.Memory.{both_true, same_out, kept_write, out_of_page}
 use Rattle.dvg_calls_6502.proofs.StoredByte.{phase_then, carried}
 use Rattle.dvg_calls_6502.proofs.TableTick.{in_ram, not_flag, second_small, put_for_small, carried_small, phase_small}
-use Rattle.dvg_calls_6502.proofs.Acting.{Covers, publish_small}
+use Rattle.dvg_calls_6502.proofs.PlainTicks.{Covers, publish_small}
 use Rattle.dvg_calls_6502.specs.Amid.{all_in}
-use Rattle.dvg_calls_6502.proofs.Standing.{Stood, stood_on}
+use Rattle.dvg_calls_6502.proofs.DriverInMemory.{Stood, stood_on}
 use Rattle.dvg_calls_6502.proofs.BurstRun.{Reaches, pc_then, word}
 use Rattle.dvg_calls_6502.proofs.BurstStep.{stepped, stepped_page, Feeds, feeds_of, NextByte, next_byte}
 

@@ -20,19 +20,19 @@ use Rattle.dvg_calls_6502.specs.Routines.{Enters, Answers, Part, begins, put_by}
 use Rattle.dvg_calls_6502.specs.Calls
 use Rattle.dvg_calls_6502.specs.Calls.{Routine, Call, call_of, after, is_over, is_taken, is_table, is_offered, bounds, frame_of}
 use Rattle.dvg_calls_6502.specs.Calls.{Adds, AreShown, IsLifeOf, put_on}
-use Rattle.dvg_calls_6502.proofs.Growing.{GoesOn, within, same_end}
-use Rattle.dvg_calls_6502.proofs.Running.{returned}
-use Rattle.dvg_calls_6502.proofs.Acting.{Covers}
-use Rattle.dvg_calls_6502.proofs.Ticking.{append_none}
-use Rattle.dvg_calls_6502.proofs.Going.{Claim, GoesTo}
+use Rattle.dvg_calls_6502.proofs.LogsGrow.{GoesOn, within, same_end}
+use Rattle.dvg_calls_6502.proofs.ProcessorRuns.{returned}
+use Rattle.dvg_calls_6502.proofs.PlainTicks.{Covers}
+use Rattle.dvg_calls_6502.proofs.TickDoesNext.{append_none}
+use Rattle.dvg_calls_6502.proofs.LifeByAccesses.{Claim, GoesTo}
 use Rattle.dvg_calls_6502.proofs.TickCall.{tick_goes}
 use Rattle.dvg_calls_6502.proofs.TicksRun.{ticks_go}
 use Rattle.dvg_calls_6502.proofs.Steady.{steady_all, code_kept}
 use Rattle.dvg_calls_6502.proofs.Offering.{resets_steadily, reset_refines, takes_steadily, offer_is_taken, redraw_is_taken}
 use Rattle.dvg_calls_6502.proofs.Offering.{redraw_is_refused, redraw_takes_steadily, redraw_refuses_steadily}
 use Rattle.dvg_calls_6502.proofs.Building.{goal_is}
-use Rattle.dvg_calls_6502.proofs.Closing.{open_steadily}
-use Rattle.dvg_calls_6502.proofs.Standing.{Stood}
+use Rattle.dvg_calls_6502.proofs.OpenAndClose.{open_steadily}
+use Rattle.dvg_calls_6502.proofs.DriverInMemory.{Stood}
 use Rattle.dvg_calls_6502.proofs.Refusing.{Refuses, refused_steady, offer_refused, open_refused, redraw_refused}
 use Rattle.dvg_calls_6502.proofs.Built.{stage_at, holds_in, place_now, by_rest, holds_goes, run_goes_on}
 use Rattle.dvg_calls_6502.proofs.BuildCalls.{refused_holds, puts_end, close_ends}

@@ -9,10 +9,10 @@ use Rattle.dvg_calls_6502.specs.Routines.{Put, Pair, Labs, Vector}
 use Rattle.dvg_calls_6502.specs.Calls as calls
 use Rattle.dvg_calls_6502.specs.Calls.{Routine, entry, finds_busy, is_leaving}
 use Rattle.dvg_calls_6502.specs.Decided.{IsDecided, IsRefusing, IsTaking, Decides}
-use Rattle.dvg_calls_6502.proofs.Running.{at, returned, run_more, steady_more, and_true}
+use Rattle.dvg_calls_6502.proofs.ProcessorRuns.{at, returned, run_more, steady_more, and_true}
 use Rattle.dvg_calls_6502.proofs.Memory.{laid, page_in, state_is, state_coded, HasCode, both_true}
 use Rattle.dvg_calls_6502.proofs.FedByte.{compared}
-use Rattle.dvg_calls_6502.proofs.Alike.{comes_out}
+use Rattle.dvg_calls_6502.proofs.AmidOthers.{comes_out}
 use Rattle.std.proofs.lemmas.Bool.{not-true as refuted}
 
 -- a run that ends so is decided

@@ -12,15 +12,15 @@ use Rattle.dvg_calls_6502.specs.Processor.{Cpu, Access, Reads, Writes, put, run,
 use Rattle.dvg_calls_6502.specs.Board.{IsLoaded, seen, goal_in, is_ram}
 use Rattle.dvg_calls_6502.specs.Amid.{is_kept, is_code, are_steady}
 use Rattle.dvg_calls_6502.specs.Holds.{HoldsPlace, IsFeeding, publish_byte}
-use Rattle.dvg_calls_6502.proofs.Running.{at, run_more, returned, steady_more}
+use Rattle.dvg_calls_6502.proofs.ProcessorRuns.{at, run_more, returned, steady_more}
 use Rattle.dvg_calls_6502.proofs.Memory.{laid, page_of, page_in, known, state_is}
 use Rattle.dvg_calls_6502.proofs.StoredByte.{phase_then}
-use Rattle.dvg_calls_6502.proofs.Standing.{Stood}
-use Rattle.dvg_calls_6502.proofs.Going.{Goes, Stretch, stood_in, idle_stretch, finish, go_on, append_items, append_logs, shown_both}
+use Rattle.dvg_calls_6502.proofs.DriverInMemory.{Stood}
+use Rattle.dvg_calls_6502.proofs.LifeByAccesses.{Goes, Stretch, stood_in, idle_stretch, finish, go_on, append_items, append_logs, shown_both}
 use Rattle.dvg_calls_6502.proofs.TickCall.{Turned, tick_call}
 use Rattle.dvg_calls_6502.proofs.TicksRun.{Leaves}
 use Rattle.dvg_calls_6502.proofs.Building.{laid_out, put_far}
-use Rattle.dvg_calls_6502.proofs.Growing.{Splits, split, stays, same_end}
+use Rattle.dvg_calls_6502.proofs.LogsGrow.{Splits, split, stays, same_end}
 use Rattle.dvg_calls_6502.proofs.BurstRun.{Reaches, pc_then}
 use Rattle.dvg_calls_6502.proofs.BurstWord as word
 use Rattle.dvg_calls_6502.proofs.BurstWord.{Bursts}

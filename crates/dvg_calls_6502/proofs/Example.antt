@@ -26,7 +26,7 @@ use Rattle.dvg_calls_6502.proofs.ExampleWorld.{start, start_loaded}
 use Rattle.dvg_calls_6502.proofs.BuiltFrame.{built_accepted}
 use Rattle.dvg_calls_6502.proofs.Memory.{both_true}
 use Rattle.dvg_calls_6502.proofs.Interrupted.{still, still_harmless, once, once_harmless}
-use Rattle.dvg_calls_6502.proofs.Quiet.{entered, enters, quiet, follows, puts, loaded_puts, loaded_as, loaded_after, not_true, at_all}
+use Rattle.dvg_calls_6502.proofs.UninterruptedCalls.{entered, enters, quiet, follows, puts, loaded_puts, loaded_as, loaded_after, not_true, at_all}
 
 -- the boot
 abbrev reset_from : Cpu

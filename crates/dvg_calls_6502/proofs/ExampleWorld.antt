@@ -4,7 +4,7 @@ use Rattle.std.specs.Prelude.{nat_le, nat_lt, slice_index, ◌&&◌, if◌then�
 use Rattle.dvg_calls_6502.specs.Processor.{put}
 use Rattle.dvg_calls_6502.specs.Board.{IsLoaded}
 use Rattle.dvg_calls_6502.proofs.Memory.{laid, page_of, put_small, loaded, are_small}
-use Rattle.dvg_calls_6502.proofs.Quiet.{small}
+use Rattle.dvg_calls_6502.proofs.UninterruptedCalls.{small}
 
 -- the table's bytes: the number of words, and the words
 abbrev pub table : List ℕ

@@ -8,7 +8,7 @@ use Rattle.dvg_calls_6502.specs.Processor.{Cpu, Access, Reads, Writes, put}
 use Rattle.dvg_calls_6502.specs.Board.{seen, is_hardware, is_own, is_readable}
 use Rattle.dvg_calls_6502.specs.Amid.{is_work, is_kept, is_code}
 use Rattle.dvg_calls_6502.specs.Feed.{moved_byte, put_for, second_then, second_byte}
-use Rattle.dvg_calls_6502.proofs.Running.{Ends, on, at, seen_as}
+use Rattle.dvg_calls_6502.proofs.ProcessorRuns.{Ends, on, at, seen_as}
 use Rattle.dvg_calls_6502.proofs.Memory.{laid, page_of, put_page, in_page, in_code}
 use Rattle.dvg_calls_6502.proofs.StoredByte.{store, phase_then, carried}
 

@@ -7,7 +7,7 @@ use Rattle.dvg_calls_6502.specs.Processor.{Cpu, Access, Writes, Return, put, run
 use Rattle.dvg_calls_6502.specs.Board.{seen}
 use Rattle.dvg_calls_6502.specs.Routines.{Enters}
 use Rattle.dvg_calls_6502.specs.Build.{IdlesAll, IdleTicksAll}
-use Rattle.dvg_calls_6502.proofs.Running.{at, run_more, returned}
+use Rattle.dvg_calls_6502.proofs.ProcessorRuns.{at, run_more, returned}
 use Rattle.dvg_calls_6502.proofs.Memory.{laid, page_of, page_in, HasCode, code_known, state_coded, put_out, in_page, in_code, le_not}
 use Rattle.dvg_calls_6502.proofs.TickCall.{on_stack, found, past_low, rts}
 use Rattle.dvg_calls_6502.proofs.TicksRun.{then_at, last, again, lower, not_last}

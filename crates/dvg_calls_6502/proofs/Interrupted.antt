@@ -9,7 +9,7 @@ use Rattle.dvg_calls_6502.specs.Routines.{Enters, Put, Pair, Labs, Vector}
 use Rattle.dvg_calls_6502.specs.Calls as calls
 use Rattle.dvg_calls_6502.specs.Calls.{Routine}
 use Rattle.dvg_calls_6502.specs.Decided.{IsDecided, CallsDecide}
-use Rattle.dvg_calls_6502.proofs.Running.{run_more}
+use Rattle.dvg_calls_6502.proofs.ProcessorRuns.{run_more}
 use Rattle.dvg_calls_6502.proofs.Memory.{both_true}
 use Rattle.dvg_calls_6502.proofs.Decided.{looked, leaving}
 use Rattle.dvg_calls_6502.proofs.AmidRun.{came_out}

@@ -8,7 +8,7 @@ use Rattle.std.proofs.Math.Path.{fun_ext}
 use Rattle.dvg_calls_6502.specs.Processor.{Cpu, put}
 use Rattle.dvg_calls_6502.specs.Code.{code}
 use Rattle.dvg_calls_6502.specs.Board.{IsLoaded}
-use Rattle.dvg_calls_6502.proofs.Running.{at}
+use Rattle.dvg_calls_6502.proofs.ProcessorRuns.{at}
 pub use Rattle.std.proofs.lemmas.Bool.{and_parts as both_true, lt-leb as le_not, eq-eqb as same_eqb}
 
 abbrev pub in_page : ℕ → Bool

@@ -4,7 +4,7 @@ use Rattle.std.proofs.Common.{arith}
 use Rattle.std.specs.Prelude.{nat_eq, nat_le, ◌&&◌, if◌then◌else◌}
 use Rattle.dvg_calls_6502.specs.Processor.{Cpu, Access, Reads, Writes, put, run, bit_of}
 use Rattle.dvg_calls_6502.specs.Board.{seen, is_hardware}
-use Rattle.dvg_calls_6502.proofs.Running.{Comes, by, at, comes}
+use Rattle.dvg_calls_6502.proofs.ProcessorRuns.{Comes, by, at, comes}
 use Rattle.dvg_calls_6502.proofs.Memory.{laid, page_of, put_page, both_true}
 use Rattle.dvg_calls_6502.proofs.FedByte.{compared, byte_read, flags_then, taken}
 

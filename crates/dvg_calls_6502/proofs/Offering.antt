@@ -17,10 +17,10 @@ use Rattle.dvg_calls_6502.specs.Holds.{Holds, IsFeeding, HoldsPlace, publish_byt
 use Rattle.dvg_calls_6502.specs.Tables.{HasTable, table_of}
 use Rattle.dvg_calls_6502.specs.Routines.{Answers, IsBusy, Enters, ResetRefines, OfferTakes, OfferRefuses, RedrawTakes}
 use Rattle.dvg_calls_6502.specs.Routines.{RedrawRefuses}
-use Rattle.dvg_calls_6502.proofs.Running.{Comes, at, returned}
+use Rattle.dvg_calls_6502.proofs.ProcessorRuns.{Comes, at, returned}
 use Rattle.dvg_calls_6502.proofs.Memory.{AreSmall, known, page_in, laid, state_is, page_of, loaded, same_out, out_of_page, small_page}
 use Rattle.dvg_calls_6502.proofs.TableTick.{not_flag}
-use Rattle.dvg_calls_6502.proofs.Begun.{BeginsTable, table_begins}
+use Rattle.dvg_calls_6502.proofs.TableBegins.{BeginsTable, table_begins}
 use Rattle.dvg_calls_6502.proofs.Steady.{steady_all, code_kept}
 use Rattle.dvg_calls_6502.proofs.OfferRun.{reset, offer_refuses, redraw_takes, redraw_first, redraw_refuses, offer_takes}
 use Rattle.dvg_calls_6502.proofs.OfferRun.{free_of, high_of}

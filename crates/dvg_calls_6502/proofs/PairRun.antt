@@ -4,7 +4,7 @@ use Rattle.std.proofs.Common.{arith}
 use Rattle.std.specs.Prelude.{nat_eq, nat_le, bit_and, bit_or, bit_xor, if◌then◌else◌}
 use Rattle.dvg_calls_6502.specs.Processor.{Cpu, Access, Reads, Writes, put, run}
 use Rattle.dvg_calls_6502.specs.Board.{seen}
-use Rattle.dvg_calls_6502.proofs.Running.{Comes, by, at, comes}
+use Rattle.dvg_calls_6502.proofs.ProcessorRuns.{Comes, by, at, comes}
 use Rattle.dvg_calls_6502.proofs.Memory.{laid, page_of, put_page, put_out, in_page, in_code}
 use Rattle.dvg_calls_6502.proofs.StoredByte.{carried}
 use Rattle.dvg_calls_6502.proofs.BuildRun.{is_full}

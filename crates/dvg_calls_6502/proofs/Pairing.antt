@@ -10,12 +10,12 @@ use Rattle.dvg_calls_6502.specs.Code.{dvg_pair, dvg_labs}
 use Rattle.dvg_calls_6502.specs.Board.{IsLoaded, seen, goal_in, is_own, is_ram}
 use Rattle.dvg_calls_6502.specs.Routines.{Enters}
 use Rattle.dvg_calls_6502.specs.Build.{IsBuilding, PairTakes, LabsTakes}
-use Rattle.dvg_calls_6502.proofs.Running.{Comes, by, at, returned}
+use Rattle.dvg_calls_6502.proofs.ProcessorRuns.{Comes, by, at, returned}
 use Rattle.dvg_calls_6502.proofs.Memory.{AreSmall, page_in, laid, page_of, loaded, put_small, state_is, small_page}
 use Rattle.dvg_calls_6502.proofs.StoredByte.{carried}
 use Rattle.dvg_calls_6502.proofs.TableTick.{in_ram, carried_small}
 use Rattle.dvg_calls_6502.proofs.BuildRun.{is_full}
-use Rattle.dvg_calls_6502.proofs.Alike.{alike_if}
+use Rattle.dvg_calls_6502.proofs.AmidOthers.{alike_if}
 use Rattle.dvg_calls_6502.proofs.Masks.{opened, mixed}
 use Rattle.dvg_calls_6502.proofs.PairRun.{Place, pair_room, labs_run}
 use Rattle.dvg_calls_6502.proofs.Building.{BuildsSo, builds_so, goal_low, goal_high, place_low, on_word, put_far, laid_out, laid_at}

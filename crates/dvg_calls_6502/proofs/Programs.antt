@@ -18,9 +18,9 @@ use Rattle.dvg_calls_6502.proofs.Built.{holds_in, holds_goes, run_goes_on, run_l
 use Rattle.dvg_calls_6502.proofs.BuildCalls.{close_some}
 use Rattle.dvg_calls_6502.proofs.Sessions.{came_of, before_call, spared, unless_map}
 use Rattle.dvg_calls_6502.proofs.Drafts.{is_draft, only_halt, Fits, shortest, shortest_fits, buildable, is_built}
-use Rattle.dvg_calls_6502.proofs.Found.{MayCome, HasRoom, with_later, some_later, some_may_come}
-use Rattle.dvg_calls_6502.proofs.Found.{call_with, Found, Finds, told, held}
-use Rattle.dvg_calls_6502.proofs.Found.{olds', alone', follows', frame', taken_is, puts_find}
+use Rattle.dvg_calls_6502.proofs.DraftsForCalls.{MayCome, HasRoom, with_later, some_later, some_may_come}
+use Rattle.dvg_calls_6502.proofs.DraftsForCalls.{call_with, Found, Finds, told, held}
+use Rattle.dvg_calls_6502.proofs.DraftsForCalls.{olds', alone', follows', frame', taken_is, puts_find}
 
 -- what dvg_ticks may change, one by one
 leaves : (q : ℕ) (now before : ℕ → ℕ) → Leaves q now before → (b : ℕ) → is_ticked q b ≡ false → now b ≡ before b

@@ -9,9 +9,9 @@ use Rattle.dvg_calls_6502.specs.Amid.{is_kept, are_steady}
 use Rattle.dvg_calls_6502.specs.Routines.{Enters, Pair, Labs, put_by}
 use Rattle.dvg_calls_6502.specs.Build.{IsRefused, is_changed}
 use Rattle.dvg_calls_6502.specs.Decided.{is_labs, LabsIsPair}
-use Rattle.dvg_calls_6502.proofs.Alike.{alike_if}
+use Rattle.dvg_calls_6502.proofs.AmidOthers.{alike_if}
 use Rattle.dvg_calls_6502.proofs.AmidRun.{came_out}
-use Rattle.dvg_calls_6502.proofs.Running.{Comes, by, at, returned, comes}
+use Rattle.dvg_calls_6502.proofs.ProcessorRuns.{Comes, by, at, returned, comes}
 use Rattle.dvg_calls_6502.proofs.Memory.{laid, page_of, page_in, known, loaded, put_small, both_true}
 use Rattle.dvg_calls_6502.proofs.FedByte.{compared}
 use Rattle.dvg_calls_6502.proofs.Masks.{opened, mixed}

@@ -16,7 +16,7 @@ use Rattle.dvg_calls_6502.specs.Routines.{Enters, Shows}
 use Rattle.dvg_calls_6502.specs.Calls
 use Rattle.dvg_calls_6502.specs.Calls.{Routine, Call, after, is_taken, is_table, is_offered, bounds, frame_of}
 use Rattle.dvg_calls_6502.specs.Calls.{IsSession, Adds, AreShown, IsLifeOf, CallsLive, OneLife}
-use Rattle.dvg_calls_6502.proofs.Acting.{Covers}
+use Rattle.dvg_calls_6502.proofs.PlainTicks.{Covers}
 use Rattle.dvg_calls_6502.proofs.AmidRun.{came_out}
 use Rattle.dvg_calls_6502.proofs.Built.{holds_in, holds_on}
 use Rattle.dvg_calls_6502.proofs.Interrupted.{Came, came, left_true, right_true, within as both_bounds}

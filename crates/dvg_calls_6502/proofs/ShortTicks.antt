@@ -3,7 +3,7 @@ use Rattle.std.proofs.Common.{◌≡◌, ℕ, suc, ◌+◌, ◌%◌, Bool, true,
 use Rattle.std.specs.Prelude.{nat_eq, nat_le, bit_and, bit_xor}
 use Rattle.dvg_calls_6502.specs.Processor.{Cpu, Access, Reads, Writes, put}
 use Rattle.dvg_calls_6502.specs.Board.{seen}
-use Rattle.dvg_calls_6502.proofs.Running.{Ends, on, at, ends}
+use Rattle.dvg_calls_6502.proofs.ProcessorRuns.{Ends, on, at, ends}
 use Rattle.dvg_calls_6502.proofs.Memory.{laid, page_of, put_page, put_out}
 
 module _ (q a x y s : ℕ) (n z c v d i : Bool) (free publish next t0 t1 pages end second f0 f1 : ℕ) (mem flags : ℕ

@@ -5,9 +5,9 @@ use Rattle.std.proofs.lemmas.Bool.{or_left}
 use Rattle.dvg_calls_6502.specs.Processor.{Cpu, run, turn, at_return, decoded, opcodes, stack_place}
 use Rattle.dvg_calls_6502.specs.Board.{is_own, is_readable}
 use Rattle.dvg_calls_6502.specs.Amid.{is_work, is_kept, is_code, is_steady, are_steady, guards, all_in, goes_home, touches}
-use Rattle.dvg_calls_6502.proofs.Running.{steady_more, and_true}
+use Rattle.dvg_calls_6502.proofs.ProcessorRuns.{steady_more, and_true}
 use Rattle.dvg_calls_6502.proofs.Memory.{both_true}
-use Rattle.dvg_calls_6502.proofs.Growing.{Splits, split, stays}
+use Rattle.dvg_calls_6502.proofs.LogsGrow.{Splits, split, stays}
 
 -- the code is kept
 pub code_kept : (tables : ℕ → Bool) (b : ℕ) → is_code b ≡ true → is_kept tables b ≡ true

@@ -3,7 +3,7 @@ use Rattle.std.proofs.Common.{◌≡◌, ℕ, ◌+◌, ◌-◌, ◌*◌, ◌%◌
 use Rattle.std.specs.Prelude.{nat_eq, nat_le, if◌then◌else◌}
 use Rattle.dvg_calls_6502.specs.Processor.{Cpu, Access, Reads, Writes, put}
 use Rattle.dvg_calls_6502.specs.Board.{seen}
-use Rattle.dvg_calls_6502.proofs.Running.{Ends, on, at, seen_as, ends}
+use Rattle.dvg_calls_6502.proofs.ProcessorRuns.{Ends, on, at, seen_as, ends}
 use Rattle.dvg_calls_6502.proofs.Memory.{laid, page_of, put_page, put_out, in_page, in_code}
 
 -- the phase after a byte: on the last page's last byte the table is done

@@ -17,13 +17,13 @@ use Rattle.dvg_calls_6502.specs.Amid.{all_in}
 use Rattle.dvg_calls_6502.specs.Board.{IsLoaded, is_hardware, source_in, goal_in, seen}
 use Rattle.dvg_calls_6502.specs.Feed.{fed, put_for, second_then, second_byte}
 use Rattle.dvg_calls_6502.specs.Holds.{IsFeeding, Holds, publish_byte}
-use Rattle.dvg_calls_6502.proofs.Running.{Ends, at}
+use Rattle.dvg_calls_6502.proofs.ProcessorRuns.{Ends, at}
 use Rattle.dvg_calls_6502.proofs.Memory.{AreSmall, laid, page_of, in_page, in_code, known, page_in, loaded, put_small, small_page}
 use Rattle.dvg_calls_6502.proofs.Memory.{same_out, kept_write, le_not, out_of_page}
 use Rattle.dvg_calls_6502.proofs.StoredByte.{phase_then, carried}
 use Rattle.dvg_calls_6502.proofs.FedByte.{writes}
-use Rattle.dvg_calls_6502.proofs.Moving.{left_on, address_on, parity_on, stays, done}
-use Rattle.dvg_calls_6502.proofs.Acting.{Acts, Covers, close}
+use Rattle.dvg_calls_6502.proofs.TablePlace.{left_on, address_on, parity_on, stays, done}
+use Rattle.dvg_calls_6502.proofs.PlainTicks.{Acts, Covers, close}
 
 -- a byte of the frame is written
 pub stands_on : (half : Half) (flipped : Bool) (a byte : ℕ) (list more : List (ℕ × ℕ)) (peeked : ℕ) (life : List Item)

@@ -12,15 +12,15 @@ use Rattle.dvg_calls_6502.specs.Board.{IsLoaded, seen, is_own, is_ram, is_hardwa
 use Rattle.dvg_calls_6502.specs.Amid.{is_kept, is_code, is_steady, are_steady}
 use Rattle.dvg_calls_6502.specs.Routines.{acted}
 use Rattle.dvg_calls_6502.specs.Calls.{AreShown}
-use Rattle.dvg_calls_6502.proofs.Running.{at, run_more, returned, steady_more, and_true}
+use Rattle.dvg_calls_6502.proofs.ProcessorRuns.{at, run_more, returned, steady_more, and_true}
 use Rattle.dvg_calls_6502.proofs.Memory.{AreSmall, laid, page_in, in_page, in_code, known, loaded, put_out, put_small, state_is, small_page}
 use Rattle.dvg_calls_6502.proofs.Memory.{both_true, le_not}
-use Rattle.dvg_calls_6502.proofs.Few.{low_plain}
-use Rattle.dvg_calls_6502.proofs.Acting.{Covers, IsInRam}
+use Rattle.dvg_calls_6502.proofs.FewAccesses.{low_plain}
+use Rattle.dvg_calls_6502.proofs.PlainTicks.{Covers, IsInRam}
 use Rattle.dvg_calls_6502.proofs.Steady.{rts_steady, code_kept}
-use Rattle.dvg_calls_6502.proofs.Ticking.{acts}
-use Rattle.dvg_calls_6502.proofs.Standing.{Stood, stood_on, stood_tick, items_of, shown_items}
-use Rattle.dvg_calls_6502.proofs.Going.{Claim, GoesTo, Keeps, Stretch, stood_in, finish}
+use Rattle.dvg_calls_6502.proofs.TickDoesNext.{acts}
+use Rattle.dvg_calls_6502.proofs.DriverInMemory.{Stood, stood_on, stood_tick, items_of, shown_items}
+use Rattle.dvg_calls_6502.proofs.LifeByAccesses.{Claim, GoesTo, Keeps, Stretch, stood_in, finish}
 
 -- what was put somewhere is found there
 pub found : (p v : ℕ) (page : List ℕ) (mem : ℕ → ℕ) → in_page p ≡ false → in_code p ≡ false → laid page (put p v mem) p ≡ v

@@ -7,9 +7,9 @@ use Rattle.dvg_driver.specs.Script.{Item}
 use Rattle.dvg_calls_6502.specs.Processor.{Cpu, Access, Reads, Writes, put, run, at_return, stack_place}
 use Rattle.dvg_calls_6502.specs.Board.{IsLoaded, seen, is_own, is_hardware}
 use Rattle.dvg_calls_6502.specs.Amid.{is_kept, is_code, are_steady}
-use Rattle.dvg_calls_6502.proofs.Running.{at, run_more, returned, steady_more}
+use Rattle.dvg_calls_6502.proofs.ProcessorRuns.{at, run_more, returned, steady_more}
 use Rattle.dvg_calls_6502.proofs.Memory.{AreSmall, laid, page_in, known, loaded, put_out, put_small, both_true, state_is, small_page}
-use Rattle.dvg_calls_6502.proofs.Going.{Claim, GoesTo, Stretch, idle_stretch, finish, go_on}
+use Rattle.dvg_calls_6502.proofs.LifeByAccesses.{Claim, GoesTo, Stretch, idle_stretch, finish, go_on}
 use Rattle.dvg_calls_6502.proofs.TickCall.{GoesByTicks, TurnedTo, tick_call_to, past_low}
 
 -- a stretch, and steps after it that touch no hardware

@@ -10,10 +10,10 @@ use Rattle.dvg_calls_6502.specs.Board.{IsLoaded, seen, goal_in, is_own}
 use Rattle.dvg_calls_6502.specs.Amid.{is_work}
 use Rattle.dvg_calls_6502.specs.Routines.{Enters, Vector, put_by}
 use Rattle.dvg_calls_6502.specs.Build.{IsBuilding, VectorTakes, VectorRefuses, is_changed}
-use Rattle.dvg_calls_6502.proofs.Running.{Comes, by, at, comes}
+use Rattle.dvg_calls_6502.proofs.ProcessorRuns.{Comes, by, at, comes}
 use Rattle.dvg_calls_6502.proofs.Memory.{laid, page_of, page_in, known, loaded, in_page, in_code, AreSmall, are_small, both_true}
 use Rattle.dvg_calls_6502.proofs.Memory.{le_not}
-use Rattle.dvg_calls_6502.proofs.Alike.{alike_if}
+use Rattle.dvg_calls_6502.proofs.AmidOthers.{alike_if}
 use Rattle.dvg_calls_6502.proofs.TicksRun.{page_small}
 use Rattle.dvg_calls_6502.proofs.BuildRun.{put_refuses, put_full}
 use Rattle.dvg_calls_6502.proofs.Building as building

@@ -8,7 +8,7 @@ use Rattle.std.specs.Prelude.{nat_eq, nat_le, nat_lt, if◌then◌else◌, slice
 use Rattle.dvg_calls_6502.specs.Processor.{Cpu, Access, put, run}
 use Rattle.dvg_calls_6502.specs.Board.{seen}
 use Rattle.dvg_calls_6502.specs.Amid.{is_work, is_kept, are_steady}
-use Rattle.dvg_calls_6502.proofs.Running.{at, run_more, steady_more, IsSteady}
+use Rattle.dvg_calls_6502.proofs.ProcessorRuns.{at, run_more, steady_more, IsSteady}
 use Rattle.dvg_calls_6502.proofs.Memory.{laid, put_out, AreSmall, swap2, same_eqb, both_true, le_not}
 use Rattle.dvg_calls_6502.proofs.Masks.{turned, signed}
 

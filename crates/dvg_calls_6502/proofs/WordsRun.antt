@@ -4,7 +4,7 @@ use Rattle.std.proofs.Common.{refl, ap, ◌∙◌, arith}
 use Rattle.std.specs.Prelude.{nat_eq, nat_le, bit_and, bit_or}
 use Rattle.dvg_calls_6502.specs.Processor.{Cpu, Access, put, run}
 use Rattle.dvg_calls_6502.specs.Board.{seen}
-use Rattle.dvg_calls_6502.proofs.Running.{at, IsSteady}
+use Rattle.dvg_calls_6502.proofs.ProcessorRuns.{at, IsSteady}
 use Rattle.dvg_calls_6502.proofs.Memory.{laid}
 use Rattle.dvg_calls_6502.proofs.VectorRun as vector
 use Rattle.dvg_calls_6502.proofs.VectorRun.{Led, worked, put_work, led, led_put, led_as, joined, more}

@@ -35,7 +35,7 @@ pub fn checked_tables()
 {}
 
 /// An example of a table that says something else: its frame names a word of the ROM below 400.
-#[tactic(auto, using(crate::proofs::Begun::table_misses))]
+#[tactic(auto, using(crate::proofs::TableBegins::table_misses))]
 pub fn table_misses()
     ensures { TableMisses }
 {}
@@ -47,7 +47,7 @@ pub fn reset()
 {}
 
 /// Each call of `dvg_tick` does the script's next action.
-#[tactic(auto, using(crate::proofs::Ticking::tick_refines))]
+#[tactic(auto, using(crate::proofs::TickDoesNext::tick_refines))]
 pub fn tick()
     ensures { TickRefines }
 {}
@@ -132,7 +132,7 @@ pub fn answers()
 /// headline: no byte is written in the half being drawn, and each picture is that of the frame
 /// newest published. Of a frame that the program builds each shape that it calls is one that the
 /// check accepts when it is called once.
-#[tactic(auto, using(crate::proofs::Joined::board_keeps))]
+#[tactic(auto, using(crate::proofs::BoardLogsLegal::board_keeps))]
 pub fn board_keeps()
     ensures { BoardKeeps }
 {}

@@ -16,8 +16,8 @@ use Rattle.dvg_driver.proofs.Places.{life_place, place_before}
 use Rattle.dvg_log.specs.Log.{Log, ram, life, strobed, free_half}
 use Rattle.dvg_log.specs.Legal.{IsLegal}
 use Rattle.dvg_theorem.proofs.Bytes.{byte}
-use Rattle.dvg_theorem.proofs.Drawing.{in_ram}
-use Rattle.dvg_theorem.proofs.Kept.{KeptBy, kept, same_place}
+use Rattle.dvg_theorem.proofs.DrawnHalf.{in_ram}
+use Rattle.dvg_theorem.proofs.DrawnHalfSpared.{KeptBy, kept, same_place}
 use Rattle.dvg_theorem.proofs.ToCome.{IsWrite, to_half, to_zero, to_one, is_write}
 use Rattle.dvg_theorem.proofs.Words.{words_are_whole}
 use Rattle.dvg_calls_6502.specs.Processor.{Cpu, Access}

@@ -24,14 +24,14 @@ use Rattle.dvg_calls_6502.specs.Calls.{entry, frame_of}
 use Rattle.dvg_calls_6502.specs.Build.{IsPut}
 use Rattle.dvg_calls_6502.specs.Joined.{stroke}
 use Rattle.dvg_calls_6502.specs.Routines.{Labs, Put}
-use Rattle.dvg_calls_6502.proofs.Running.{run_more}
-use Rattle.dvg_calls_6502.proofs.Growing.{GoesOn, run_on, seen_append}
+use Rattle.dvg_calls_6502.proofs.ProcessorRuns.{run_more}
+use Rattle.dvg_calls_6502.proofs.LogsGrow.{GoesOn, run_on, seen_append}
 use Rattle.dvg_calls_6502.proofs.Memory.{in_page, both_true, le_not, out_of_page}
 use Rattle.dvg_calls_6502.proofs.Interrupted.{still, still_harmless}
-use Rattle.dvg_calls_6502.proofs.Quiet.{entered, enters, quiet, follows, written, fit, loaded_after}
+use Rattle.dvg_calls_6502.proofs.UninterruptedCalls.{entered, enters, quiet, follows, written, fit, loaded_after}
 use Rattle.dvg_calls_6502.proofs.ExampleWorld.{start, start_loaded}
 use Rattle.dvg_calls_6502.proofs.Example.{some_logs, has_table}
-use Rattle.dvg_calls_6502.proofs.Joined.{board_keeps as code_keeps}
+use Rattle.dvg_calls_6502.proofs.BoardLogsLegal.{board_keeps as code_keeps}
 use Rattle.dvg_cells_board.specs.Board.{Board, Bus, high, q, clock}
 use Rattle.dvg_cells_board.specs.Clocks.{IsBus, after, changes}
 use Rattle.dvg_cells_board.specs.Logs.{did, answered}

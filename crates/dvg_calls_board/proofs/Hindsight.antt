@@ -13,7 +13,7 @@ use Rattle.dvg_calls_6502.specs.Calls as calls
 use Rattle.dvg_calls_6502.specs.Calls.{Routine, Call, IsSession, IsSessionBy, Brings, Follows, UnlessReset, is_taken, bounds, frame_of}
 use Rattle.dvg_calls_6502.specs.Programs.{Tells, renamed, with_drafts, BuildsOnly, AreBuilt}
 use Rattle.dvg_calls_6502.proofs.Sessions.{by_reset, unless_map}
-use Rattle.dvg_calls_6502.proofs.Found.{call_with, busy_renamed, over_renamed}
+use Rattle.dvg_calls_6502.proofs.DraftsForCalls.{call_with, busy_renamed, over_renamed}
 use Rattle.dvg_calls_6502.proofs.Programs.{hindsight}
 use Rattle.dvg_cells_board.specs.Board.{Board, Bus}
 use Rattle.dvg_cells_board.specs.Clocks.{changes}

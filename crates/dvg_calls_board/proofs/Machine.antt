@@ -15,7 +15,7 @@ use Rattle.dvg_log.specs.Log.{◌⟼◌, Log, Throughout, ram, life, free_half}
 use Rattle.dvg_log.specs.Legal.{IsLegal}
 use Rattle.dvg_log.specs.Headline.{KeepsHeadline}
 use Rattle.dvg_theorem.proofs.Bytes.{byte}
-use Rattle.dvg_theorem.proofs.Kept.{sized}
+use Rattle.dvg_theorem.proofs.DrawnHalfSpared.{sized}
 use Rattle.dvg_calls_6502.specs.Processor.{Cpu, Access, Reads, Writes}
 use Rattle.dvg_calls_6502.specs.Amid.{amid}
 use Rattle.dvg_calls_6502.specs.Board.{seen}

@@ -18,7 +18,7 @@ use Rattle.dvg_frame.specs.Steps.{one, Stands, in_frame, in_rom, op_act, GoesPas
 use Rattle.dvg_frame.specs.Steps.{past, deep, bare, IsFine, Leads, on, jump, call, back, Reached, begin, step, Misses, misses, labs}
 use Rattle.dvg_frame.specs.Loops.{Walks, none, more}
 use Rattle.dvg_frame.specs.Faults.{Accepts}
-use Rattle.dvg_frame.proofs.Judged.{same_standing}
+use Rattle.dvg_frame.proofs.FaultsAtPlaces.{same_standing}
 use Rattle.dvg_cells_core.specs.Cells.{bit}
 use Rattle.dvg_calls_6502.specs.Build.{calls_one}
 use Rattle.dvg_cells_board.specs.Board.{Board, Bus, high, at}

@@ -15,7 +15,7 @@ use Rattle.dvg_log.specs.Legal.{IsLegal, Fits}
 use Rattle.dvg_log.specs.Headline.{KeepsHeadline}
 use Rattle.dvg_calls_6502.specs.Processor.{Reads, Writes, Access}
 use Rattle.dvg_calls_6502.specs.Joined.{IsMade, FitsBoard, IsBoards}
-use Rattle.dvg_calls_6502.proofs.Joined.{board_keeps as code_keeps}
+use Rattle.dvg_calls_6502.proofs.BoardLogsLegal.{board_keeps as code_keeps}
 use Rattle.dvg_cells_core.specs.Core.{halted}
 use Rattle.dvg_calls_6502.specs.Routines.{Shows}
 use Rattle.dvg_cells_board.specs.Board.{Bus, takes, q, clock}
@@ -27,8 +27,8 @@ use Rattle.dvg_cells_board.proofs.System.{pin_is}
 use Rattle.dvg_cells_board.proofs.Board as board
 use Rattle.dvg_cells_board.proofs.Cores.{cores, core_is}
 use Rattle.dvg_cells_board.proofs.Board.{holds}
-use Rattle.dvg_cells_board.proofs.Answered.{answers_next, third}
-pub use Rattle.dvg_calls_6502.proofs.Joined.{made_lives}
+use Rattle.dvg_cells_board.proofs.AnswersProcessor.{answers_next, third}
+pub use Rattle.dvg_calls_6502.proofs.BoardLogsLegal.{made_lives}
 
 -- each line of the processor is an access, or an answer, of the machine code
 abbrev pub FitsCode : Driver

@@ -9,7 +9,7 @@ use Rattle.dvg_calls_6502.specs.Processor.{Cpu, put, run, at_return}
 use Rattle.dvg_calls_6502.specs.Amid.{guards, is_kept}
 use Rattle.dvg_calls_6502.specs.Calls as calls
 use Rattle.dvg_calls_6502.specs.Calls.{Routine, Call, IsSession, Follows, is_table, is_refused, is_leaving}
-use Rattle.dvg_calls_6502.proofs.Running.{at}
+use Rattle.dvg_calls_6502.proofs.ProcessorRuns.{at}
 use Rattle.dvg_calls_6502.proofs.Memory.{laid, page_of, in_page, put_page, loaded, AreSmall, le_not, out_of_page}
 use Rattle.dvg_calls_6502.proofs.Interrupted.{still, still_harmless}
 use Rattle.dvg_cells_board.specs.Example.{zeros}

@@ -11,7 +11,7 @@ use Rattle.dvg_cells_board.specs.Clocks.{IsBus, after}
 use Rattle.dvg_cells_cpu.specs.Cpu.{Cpu as Cells, at, clock}
 use Rattle.dvg_cells_cpu.specs.Refines.{pins_of}
 use Rattle.dvg_cells_cpu.specs.Widths.{Fits}
-use Rattle.dvg_cells_cpu.proofs.Fitting.{fits}
+use Rattle.dvg_cells_cpu.proofs.LawOfWidths.{fits}
 use Rattle.dvg_calls_cells.specs.Machine.{Machine, drives_cpu}
 use Rattle.dvg_calls_cells.specs.Cycles.{Drive, Two, Turn, acts, idles, resetting, first_bus, second_bus, wait_bus, cycle_of}
 use Rattle.dvg_calls_cells.specs.Steps.{AreServed}

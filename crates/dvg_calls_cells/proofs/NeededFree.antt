@@ -8,7 +8,7 @@ use Rattle.dvg_calls_6502.specs.Calls.{Routine, Call, IsSession}
 use Rattle.dvg_calls_6502.specs.Single.{is_single}
 use Rattle.dvg_calls_6502.proofs.Memory.{both_true}
 use Rattle.dvg_calls_6502.proofs.Interrupted.{still}
-use Rattle.dvg_calls_6502.proofs.Quiet.{quiet, written, fit, not_true, loaded_after}
+use Rattle.dvg_calls_6502.proofs.UninterruptedCalls.{quiet, written, fit, not_true, loaded_after}
 use Rattle.dvg_cells_board.specs.Board.{Board}
 use Rattle.dvg_cells_board.specs.Clocks.{after}
 use Rattle.dvg_cells_board.specs.Example.{zeros}
@@ -21,11 +21,11 @@ use Rattle.dvg_calls_cells.specs.Cycles.{Two, Turn, acts, begins, between, ends,
 use Rattle.dvg_calls_cells.specs.Steps.{instr_of}
 use Rattle.dvg_calls_cells.specs.Played.{IsPlayed, IsGiven, AreGiven, AreFound, IsPlaced, Does, Keeps, inside, older_after}
 use Rattle.dvg_calls_cells.specs.Needed.{DoesBy, all, NeedsFree}
-use Rattle.dvg_calls_cells.proofs.Stepping.{ends_are, ends_cells}
+use Rattle.dvg_calls_cells.proofs.CallOnCells.{ends_are, ends_cells}
 use Rattle.dvg_calls_cells.proofs.Needed.{has_ram}
-use Rattle.dvg_calls_cells.proofs.Following.{drive, two_of, twos_for, fits_for, all_given, all_found, rests_by, rests_of, placed_by}
-use Rattle.dvg_calls_cells.proofs.Following.{placed_of, Amid, Went, over, now_is, is_new, up_to}
-use Rattle.dvg_calls_cells.proofs.Drawing.{begun, run_from, run_session}
+use Rattle.dvg_calls_cells.proofs.CellsFollowCpu.{drive, two_of, twos_for, fits_for, all_given, all_found, rests_by, rests_of, placed_by}
+use Rattle.dvg_calls_cells.proofs.CellsFollowCpu.{placed_of, Amid, Went, over, now_is, is_new, up_to}
+use Rattle.dvg_calls_cells.proofs.FirstCellsPicture.{begun, run_from, run_session}
 
 -- the cells can do the call's next instruction, if no NMI is due
 abbrev can_begin : ℕ → Cpu → Cells → Bool

@@ -11,7 +11,7 @@ use Rattle.dvg_calls_cells.proofs.Needed.{sent_by_none, has_ram}
 use Rattle.dvg_calls_cells.proofs.ExampleCalls as made
 use Rattle.dvg_calls_cells.proofs.NeededCalls as other
 use Rattle.dvg_calls_cells.proofs.Example as example
-use Rattle.dvg_calls_cells.proofs.Following.{list_given, twos}
+use Rattle.dvg_calls_cells.proofs.CellsFollowCpu.{list_given, twos}
 
 -- STA 3000, at power-up
 pub needs_no_strobe : NeedsNoStrobe

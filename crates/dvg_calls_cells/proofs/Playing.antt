@@ -14,16 +14,16 @@ use Rattle.dvg_calls_board.specs.Machine.{IsMachine, OfEachMachine, HaveRam, Sha
 use Rattle.dvg_cells_cpu.specs.Cpu.{Cpu as Cells}
 use Rattle.dvg_cells_cpu.specs.Refines.{Rests, IsSound}
 use Rattle.dvg_cells_cpu.specs.Widths.{Fits}
-use Rattle.dvg_cells_cpu.proofs.Fitting.{fits}
+use Rattle.dvg_cells_cpu.proofs.LawOfWidths.{fits}
 use Rattle.dvg_calls_cells.specs.Machine.{Machine}
 use Rattle.dvg_calls_cells.specs.Cycles.{AreAlike, none, same}
 use Rattle.dvg_calls_cells.specs.Steps.{now}
 use Rattle.dvg_calls_cells.specs.Played.{IsPlayed, IsPlaced, powers, alone, tests, resets, begins_call, inside, reset_bus}
 use Rattle.dvg_calls_cells.specs.Played.{CellsKeep, CpuWaits, ResetTakes, CycleEnds, ResetWaits}
 use Rattle.dvg_calls_cells.proofs.Fits.{AllFit, served_of, reset_is, reset_fits}
-use Rattle.dvg_calls_cells.proofs.Found.{answered_of, now_has}
-use Rattle.dvg_calls_cells.proofs.Quiet.{quietly, testing}
-use Rattle.dvg_calls_cells.proofs.Stepping.{ends_are, step_on}
+use Rattle.dvg_calls_cells.proofs.RamReads.{answered_of, now_has}
+use Rattle.dvg_calls_cells.proofs.BoardLeftAlone.{quietly, testing}
+use Rattle.dvg_calls_cells.proofs.CallOnCells.{ends_are, step_on}
 
 -- a machine of the definition's processor, with these clocks but for what the program looks at, and cells that fit
 record Is (R image : List ℕ) (held : ℕ → ℕ) (list : List Call) (older : List Bus) (cells : Cells) : Type 0 where

@@ -94,7 +94,7 @@ pub fn some_played()
 
 /// And one that draws: the driver boots and takes a table, `dvg_run` writes and publishes its frame
 /// and sends a strobe, and while the program idles the core draws it, as its log says.
-#[tactic(auto, using(crate::proofs::Drawing::some_drawn))]
+#[tactic(auto, using(crate::proofs::FirstCellsPicture::some_drawn))]
 pub fn some_drawn()
     ensures { SomeDrawn }
 {

@@ -17,14 +17,14 @@ use Rattle.dvg_cells_core.specs.Cells.{bit, both, either, eq, lt, mux, none, par
 use Rattle.dvg_cells_core.specs.Core.{Core, Pins, halted}
 use Rattle.dvg_cells_core.specs.Refines.{ArePins, byte_of}
 use Rattle.dvg_cells_core.specs.Refines as core
-use Rattle.dvg_cells_core.proofs.Fitting.{Fits}
+use Rattle.dvg_cells_core.proofs.RegistersFit.{Fits}
 use Rattle.dvg_driver.specs.Script.{Did, IsLife}
 use Rattle.dvg_driver.specs.Stands.{Tells}
 use Rattle.dvg_log.specs.Log.{Throughout, life}
 use Rattle.dvg_log.specs.Legal.{IsLegal}
 use Rattle.dvg_log.specs.Headline.{KeepsHeadline}
 use Rattle.dvg_theorem.proofs.Headline.{headline}
-use Rattle.dvg_theorem.proofs.Kept.{kept}
+use Rattle.dvg_theorem.proofs.DrawnHalfSpared.{kept}
 use Rattle.dvg_theorem.proofs.Words.{words_are_whole}
 use Rattle.dvg_cells_board.specs.Board.{Board, Bus, pins, takes, clock}
 use Rattle.dvg_cells_board.specs.Fetches.{drew, entry, says}

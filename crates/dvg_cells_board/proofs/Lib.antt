@@ -2,7 +2,7 @@ pub mod Cores
 pub mod System
 pub mod Wires
 pub mod Board
-pub mod Answered
+pub mod AnswersProcessor
 pub mod Example
 mod Vectors
 mod ClockVectors

@@ -10,8 +10,8 @@ use Rattle.dvg_gen.specs.Machine.{HasTaken}
 use Rattle.dvg_gen.specs.Run.{Visit, Adds, first, one, two, Fate, Goes, Finished, Breaks, fate, wanted, strokes}
 use Rattle.dvg_gen.specs.Told.{Told, Start, Reset, Fed, Newest, Leaves, takes, meets_hole, goes_on, Reply, More, Drew, Fails, reply, reply_by}
 use Rattle.dvg_gen.specs.Told as told
-use Rattle.dvg_gen.proofs.Standing.{stands_new, stands_reset, open_goes}
-use Rattle.dvg_gen.proofs.Same.{leaves_same}
+use Rattle.dvg_gen.proofs.GeneratorAfterHistory.{stands_new, stands_reset, open_goes}
+use Rattle.dvg_gen.proofs.OneRun.{leaves_same}
 use Rattle.dvg_driver.specs.Script.{Did, IsLife}
 use Rattle.dvg_driver.specs.Stands.{Tells}
 use Rattle.dvg_driver.specs.declared.action.Action.{Action}
@@ -28,8 +28,8 @@ use Rattle.dvg_cells_core.specs.Shown.{ShowsReply}
 use Rattle.dvg_cells_core.proofs.Machines.{machine_of}
 use Rattle.dvg_cells_core.specs.Refines
 use Rattle.dvg_cells_core.specs.Refines.{ArePins, after, drew, byte_of, Tells as Clocked, Said}
-use Rattle.dvg_cells_core.proofs.Fitting.{Fits as Fitting, Stepped}
-use Rattle.dvg_cells_core.proofs.Whole.{one as stepped}
+use Rattle.dvg_cells_core.proofs.RegistersFit.{Fits as Fitting, Stepped}
+use Rattle.dvg_cells_core.proofs.CoreSincePowerUp.{one as stepped}
 use Rattle.dvg_cells_board.specs.Fetches.{entry_of, entry_by, says}
 use Rattle.dvg_cells_board.proofs.Cores.{entry_at}
 use Rattle.dvg_cells_board.specs.Logs.{IsSilent, FitsScript}

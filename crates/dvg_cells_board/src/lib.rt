@@ -31,13 +31,13 @@ pub fn board_keeps()
 
 /// What the processor reads is what the log has: the RAM's byte, and the flag. Its strobe starts
 /// the core, and the core is served in each clock in which the RAM is free for it.
-#[tactic(auto, using(crate::proofs::Answered::answers_next))]
+#[tactic(auto, using(crate::proofs::AnswersProcessor::answers_next))]
 pub fn board_answers()
     ensures { OfEachBoard (λ R image held log clocks. AnswersNext image held log clocks) }
 {}
 
 /// A clock of any board, whoever drives it, and whatever came before.
-#[tactic(auto, using(crate::proofs::Answered::board_works))]
+#[tactic(auto, using(crate::proofs::AnswersProcessor::board_works))]
 pub fn board_works()
     ensures { BoardWorks }
 {}

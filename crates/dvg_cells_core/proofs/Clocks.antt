@@ -11,7 +11,7 @@ use Rattle.dvg_gen.specs.declared.taken.GenFault.TheVariants.{StackOver, StackUn
 use Rattle.dvg_gen.specs.Bytes.{Waits, Whole}
 use Rattle.dvg_gen.specs.Machine.{Machine, HasTaken}
 use Rattle.dvg_gen.specs.Obeyed.{Obeyed, gone}
-use Rattle.dvg_gen.proofs.Standing.{Claim, stands_start, stands_reset, claim_hole, claim_low, claim_first}
+use Rattle.dvg_gen.proofs.GeneratorAfterHistory.{Claim, stands_start, stands_reset, claim_hole, claim_low, claim_first}
 use Rattle.dvg_cells_core.specs.Cells.{part, joined, add, some}
 use Rattle.dvg_cells_core.specs.Core.{Core, Pins, clock}
 use Rattle.dvg_cells_core.specs.Shown.{line_of, ShowsReply}
@@ -21,9 +21,9 @@ use Rattle.dvg_gen.specs.Told.{Told, Start, Reset, Fed, Reply, More, Drew, Fails
 use Rattle.dvg_cells_core.proofs.Machines.{kept, machine_of}
 use Rattle.dvg_cells_core.specs.Refines
 use Rattle.dvg_cells_core.specs.Refines.{fetches}
-use Rattle.dvg_cells_core.proofs.Fitting.{Fits, Stepped, Halted, halted_at, obeys, reply_is, shift_in}
+use Rattle.dvg_cells_core.proofs.RegistersFit.{Fits, Stepped, Halted, halted_at, obeys, reply_is, shift_in}
 use Rattle.dvg_cells_core.proofs.Shifts.{shift, shift_is, hop_is, line_is}
-use Rattle.dvg_code.proofs.Reading.{vctr_read, labs_read, svec_read}
+use Rattle.dvg_code.proofs.FieldsSpell.{vctr_read, labs_read, svec_read}
 use Rattle.dvg_code.specs.Fields.{signed}
 use Rattle.dvg_gen.specs.declared.beam.Beam.{Beam}
 use Rattle.dvg_gen.specs.Drawing.{unit, shifted, line}

@@ -1,8 +1,8 @@
 pub mod Machines
 pub mod Shifts
-pub mod Fitting
+pub mod RegistersFit
 pub mod Clocks
-pub mod Whole
+pub mod CoreSincePowerUp
 mod Example
 pub mod Vectors
 mod ClockVectors

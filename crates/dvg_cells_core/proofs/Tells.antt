@@ -8,7 +8,7 @@ use Rattle.dvg_code.specs.Fields.{signed}
 use Rattle.dvg_code.specs.declared.instr.Instr.{Instr}
 use Rattle.dvg_code.specs.declared.instr.Instr.TheVariants.{Vctr, Labs, Halt, Jsrl, Rtsl, Jmpl, Svec}
 use Rattle.dvg_code.specs.Spelling.{Spells, halt, jsrl, rtsl, jmpl}
-use Rattle.dvg_code.proofs.Reading.{vctr_read, labs_read, svec_read}
+use Rattle.dvg_code.proofs.FieldsSpell.{vctr_read, labs_read, svec_read}
 use Rattle.dvg_gen.specs.declared.beam.Beam.{Beam}
 use Rattle.dvg_gen.specs.declared.counters.Counters.{Counters}
 use Rattle.dvg_gen.specs.declared.moving.Move.{Move}
@@ -22,14 +22,14 @@ use Rattle.dvg_gen.specs.Told.{Told, Newest, Leaves}
 use Rattle.dvg_gen.proofs.Counted.{counted_step}
 use Rattle.dvg_gen.proofs.Inside.{spelled_range}
 use Rattle.dvg_gen.proofs.Moves.{FetchesMove, completes_move, first_move, adds_moves}
-use Rattle.dvg_gen.proofs.Same.{leaves_same}
+use Rattle.dvg_gen.proofs.OneRun.{leaves_same}
 use Rattle.dvg_cells_core.specs.Cells.{part, joined, add, lt, eq, bit, some, none, both}
 use Rattle.dvg_cells_core.specs.Core.{Core, Pins, vec, labs}
 use Rattle.dvg_cells_core.specs.Core as pin
 use Rattle.dvg_cells_core.specs.Refines
 use Rattle.dvg_cells_core.specs.Refines.{ArePins, after, drew, Tells, idles, ignores, fetches, byte_of, told_by}
 use Rattle.dvg_cells_core.proofs.Machines.{machine_of, kept}
-use Rattle.dvg_cells_core.proofs.Whole.{Stands, stand, stand_next, agrees_of, one}
+use Rattle.dvg_cells_core.proofs.CoreSincePowerUp.{Stands, stand, stand_next, agrees_of, one}
 use Rattle.dvg_cells_core.specs.Tells.{moves_of, TellsMove, TellsMoves, TellsKind, PinsTell, PinsRest}
 use Rattle.dvg_cells_core.proofs.Scaled.{stepped_to}
 

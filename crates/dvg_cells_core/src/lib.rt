@@ -15,7 +15,7 @@ ghost use Rattle.dvg_cells_core.specs.Tells.{PinsRest, PinsTell};
 /// `x` and `y` are its beam, the strokes shown since the newest start are its strokes, and after
 /// each fetched word or hole `done` and `fault` are the answer that the definition of the generator
 /// gives. Where that is a fault, `done` and `stroke` are 0; after all else all three are.
-#[tactic(auto, using(crate::proofs::Whole::refines))]
+#[tactic(auto, using(crate::proofs::CoreSincePowerUp::refines))]
 pub fn core_refines()
     ensures { CoreRefines }
 {}

@@ -1,8 +1,8 @@
 pub mod Sums
 pub mod Resting
 pub mod Lists
-pub mod Found
-pub mod Seen
+pub mod OperandReads
+pub mod BusAccesses
 pub mod Obeying
 pub mod OpsTake
 pub mod OpsAdd
@@ -10,10 +10,10 @@ pub mod OpsWrite
 pub mod OpsAlone
 pub mod Rows
 pub mod Stays
-pub mod Whole
+pub mod EachOpcode
 pub mod Interrupting
 pub mod Bounds
 pub mod Widths
-pub mod Fitting
+pub mod LawOfWidths
 pub mod Vectors
 pub mod ClockVectors

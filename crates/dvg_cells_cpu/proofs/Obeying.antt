@@ -4,7 +4,7 @@ use Rattle.std.specs.Prelude.{length}
 use Rattle.dvg_calls_6502.specs.Processor.{Cpu, Instr}
 use Rattle.dvg_cells_cpu.specs.Cpu.{Cpu as Cells}
 use Rattle.dvg_cells_cpu.specs.Refines.{AreAnswered, Cycle, Goes, IsSound, cycles}
-use Rattle.dvg_cells_cpu.proofs.Found.{here}
+use Rattle.dvg_cells_cpu.proofs.OperandReads.{here}
 use Rattle.dvg_cells_cpu.proofs.Lists.{one, two, three, four, five, at_opcode}
 use Rattle.dvg_cells_cpu.proofs.Resting.{cy, resting}
 

@@ -6,10 +6,10 @@ use Rattle.dvg_cells_cpu.specs.Refines.{Goes}
 use Rattle.dvg_cells_cpu.proofs.Sums.{flat, rejoined, zero_by, minus_by, complement, complement_in, add_result}
 use Rattle.dvg_cells_cpu.proofs.Sums.{add_carry, add_over, sum_result, sum_minus, sum_carry, sum_over}
 use Rattle.dvg_cells_cpu.proofs.Sums.{difference_result}
-use Rattle.dvg_cells_cpu.proofs.Found.{zp, zp_by, wide, wide_by, word, word_by, pc2, pc3, found_byte, by_first}
-use Rattle.dvg_cells_cpu.proofs.Found.{by_zero_page, by_zero_page_i, by_absolute, by_absolute_i, by_indirect}
-use Rattle.dvg_cells_cpu.proofs.Found.{by_indirect_x}
-use Rattle.dvg_cells_cpu.proofs.Seen.{seen_at, tail2, tail3, tail_at}
+use Rattle.dvg_cells_cpu.proofs.OperandReads.{zp, zp_by, wide, wide_by, word, word_by, pc2, pc3, found_byte, by_first}
+use Rattle.dvg_cells_cpu.proofs.OperandReads.{by_zero_page, by_zero_page_i, by_absolute, by_absolute_i, by_indirect}
+use Rattle.dvg_cells_cpu.proofs.OperandReads.{by_indirect_x}
+use Rattle.dvg_cells_cpu.proofs.BusAccesses.{seen_at, tail2, tail3, tail_at}
 use Rattle.dvg_cells_cpu.proofs.Resting.{cy, resting}
 use Rattle.dvg_cells_cpu.proofs.Obeying.{Obeys2, Obeys3, Obeys4, Obeys5}
 

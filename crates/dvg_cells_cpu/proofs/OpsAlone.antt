@@ -8,10 +8,10 @@ use Rattle.dvg_calls_6502.specs.Processor.{Overflow, Decimal, Interrupt, Absolut
 use Rattle.dvg_cells_cpu.specs.Refines.{Goes}
 use Rattle.dvg_cells_cpu.proofs.Sums.{zero_is, zero_by, minus_by, low_bit, lowest, doubled, rolled_left, rolled_right}
 use Rattle.dvg_cells_cpu.proofs.Sums.{halved, branched, flags_is}
-use Rattle.dvg_cells_cpu.proofs.Found.{zp, wide, pc1, by_first, by_two, by_jump, by_pull, by_return, by_resume, s2}
-use Rattle.dvg_cells_cpu.proofs.Found.{s3}
-use Rattle.dvg_cells_cpu.proofs.Seen.{tail1, tail2, tail3, seen_jump, seen_call, call_s, seen_push, seen_pull}
-use Rattle.dvg_cells_cpu.proofs.Seen.{seen_return, seen_resume}
+use Rattle.dvg_cells_cpu.proofs.OperandReads.{zp, wide, pc1, by_first, by_two, by_jump, by_pull, by_return, by_resume}
+use Rattle.dvg_cells_cpu.proofs.OperandReads.{s2, s3}
+use Rattle.dvg_cells_cpu.proofs.BusAccesses.{tail1, tail2, tail3, seen_jump, seen_call, call_s, seen_push, seen_pull}
+use Rattle.dvg_cells_cpu.proofs.BusAccesses.{seen_return, seen_resume}
 use Rattle.dvg_cells_cpu.proofs.Resting.{cy, resting}
 use Rattle.dvg_cells_cpu.proofs.Obeying.{Obeys1, Obeys2, Obeys3, Obeys4, Obeys5}
 

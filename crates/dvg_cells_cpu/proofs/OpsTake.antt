@@ -5,10 +5,10 @@ use Rattle.dvg_calls_6502.specs.Processor.{ZeroPage, ZeroPageX, ZeroPageY, Absol
 use Rattle.dvg_calls_6502.specs.Processor.{IndexedIndirect, IndirectIndexed}
 use Rattle.dvg_cells_cpu.specs.Refines.{Goes}
 use Rattle.dvg_cells_cpu.proofs.Sums.{flat, rejoined, zero_is, zero_by, minus_by, differs, over_of}
-use Rattle.dvg_cells_cpu.proofs.Found.{zp, zp_by, wide, wide_by, word, word_by, pc2, pc3, found_byte, by_first}
-use Rattle.dvg_cells_cpu.proofs.Found.{by_zero_page, by_zero_page_i, by_absolute, by_absolute_i, by_indirect}
-use Rattle.dvg_cells_cpu.proofs.Found.{by_indirect_x}
-use Rattle.dvg_cells_cpu.proofs.Seen.{seen_at, tail2, tail3, tail_at}
+use Rattle.dvg_cells_cpu.proofs.OperandReads.{zp, zp_by, wide, wide_by, word, word_by, pc2, pc3, found_byte, by_first}
+use Rattle.dvg_cells_cpu.proofs.OperandReads.{by_zero_page, by_zero_page_i, by_absolute, by_absolute_i, by_indirect}
+use Rattle.dvg_cells_cpu.proofs.OperandReads.{by_indirect_x}
+use Rattle.dvg_cells_cpu.proofs.BusAccesses.{seen_at, tail2, tail3, tail_at}
 use Rattle.dvg_cells_cpu.proofs.Resting.{cy, resting}
 use Rattle.dvg_cells_cpu.proofs.Obeying.{Obeys2, Obeys3, Obeys4, Obeys5}
 

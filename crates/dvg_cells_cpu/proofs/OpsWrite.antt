@@ -6,10 +6,10 @@ use Rattle.dvg_calls_6502.specs.Processor.{AbsoluteX, AbsoluteY, IndexedIndirect
 use Rattle.dvg_cells_cpu.specs.Refines.{Goes}
 use Rattle.dvg_cells_cpu.proofs.Sums.{flat, rejoined, zero_is, zero_by, minus_by, lowest, doubled, rolled_left}
 use Rattle.dvg_cells_cpu.proofs.Sums.{rolled_right, halved}
-use Rattle.dvg_cells_cpu.proofs.Found.{zp, zp_by, wide, wide_by, word, word_by, pc2, pc3, found_byte, by_first}
-use Rattle.dvg_cells_cpu.proofs.Found.{by_zero_page, by_zero_page_i, by_two, by_absolute, by_absolute_i, by_point}
-use Rattle.dvg_cells_cpu.proofs.Found.{by_point_x}
-use Rattle.dvg_cells_cpu.proofs.Seen.{seen_at, seen_change, tail2, tail3, tail_at}
+use Rattle.dvg_cells_cpu.proofs.OperandReads.{zp, zp_by, wide, wide_by, word, word_by, pc2, pc3, found_byte, by_first}
+use Rattle.dvg_cells_cpu.proofs.OperandReads.{by_zero_page, by_zero_page_i, by_two, by_absolute, by_absolute_i}
+use Rattle.dvg_cells_cpu.proofs.OperandReads.{by_point, by_point_x}
+use Rattle.dvg_cells_cpu.proofs.BusAccesses.{seen_at, seen_change, tail2, tail3, tail_at}
 use Rattle.dvg_cells_cpu.proofs.Resting.{cy, resting}
 use Rattle.dvg_cells_cpu.proofs.Obeying.{Obeys3, Obeys4, Obeys5}
 

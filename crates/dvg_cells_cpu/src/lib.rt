@@ -23,7 +23,7 @@ pub fn cpu_stays()
 {}
 
 /// A clock without `step` and `reset` keeps all registers.
-#[tactic(auto, using(crate::proofs::Whole::waits))]
+#[tactic(auto, using(crate::proofs::EachOpcode::waits))]
 pub fn cpu_waits()
     ensures { CpuWaits }
 {}
@@ -45,7 +45,7 @@ pub fn cpu_resets()
 {}
 
 /// Registers and pins fit their widths.
-#[tactic(auto, using(crate::proofs::Fitting::fits))]
+#[tactic(auto, using(crate::proofs::LawOfWidths::fits))]
 pub fn cpu_fits()
     ensures { CpuFits }
 {}

@@ -5,7 +5,7 @@ use Rattle.std.proofs.lemmas.List.Elements.{All-head, All-tail}
 use Rattle.dvg_cells_core.specs.Cells.{both, either, none, mux}
 use Rattle.dvg_cells_core.specs.Core as core
 use Rattle.dvg_cells_core.specs.Refines.{Agrees}
-use Rattle.dvg_cells_core.proofs.Whole.{agrees_of}
+use Rattle.dvg_cells_core.proofs.CoreSincePowerUp.{agrees_of}
 use Rattle.dvg_gen.specs.Run.{Finished, fate}
 use Rattle.dvg_cells_board.specs.Board as board
 use Rattle.dvg_cells_motion.specs.Motion.{going}

@@ -2,7 +2,7 @@ pub mod Ticks
 pub mod Moves
 pub mod Tied
 pub mod Machine
-pub mod Timing
+pub mod TicksOfByte
 pub mod Wiring
 pub mod Spends
 pub mod TickSums

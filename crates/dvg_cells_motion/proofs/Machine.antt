@@ -10,7 +10,7 @@ use Rattle.dvg_gen.specs.Counting.{followed, followed_all}
 use Rattle.dvg_gen.specs.Drawing.{unit}
 use Rattle.dvg_gen.specs.Told.{Told, Newest, Leaves, Start, Reset, starts, resets}
 use Rattle.dvg_gen.specs.Told as told
-use Rattle.dvg_gen.proofs.Same.{leaves_same}
+use Rattle.dvg_gen.proofs.OneRun.{leaves_same}
 use Rattle.dvg_cells_core.specs.Cells.{part, both, none, bit, mux, eq, lt}
 use Rattle.dvg_cells_core.specs.Core.{Core, labs, vec}
 use Rattle.dvg_cells_core.specs.Core as core
@@ -18,8 +18,8 @@ use Rattle.dvg_cells_core.specs.Refines.{Tells, idles, ignores, fetches, drew}
 use Rattle.dvg_gen.specs.Bytes.{Met}
 use Rattle.dvg_cells_core.specs.Refines as refines
 use Rattle.dvg_cells_core.proofs.Machines.{machine_of}
-use Rattle.dvg_cells_core.proofs.Whole.{Stands, stand_next, agrees_of, one}
-use Rattle.dvg_gen.proofs.Standing.{stands_new}
+use Rattle.dvg_cells_core.proofs.CoreSincePowerUp.{Stands, stand_next, agrees_of, one}
+use Rattle.dvg_gen.proofs.GeneratorAfterHistory.{stands_new}
 use Rattle.dvg_cells_motion.specs.Motion.{Motion, going}
 use Rattle.dvg_cells_motion.specs.Motion as motion
 use Rattle.dvg_cells_motion.specs.Pace.{hold, places}

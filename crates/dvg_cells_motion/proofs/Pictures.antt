@@ -7,7 +7,7 @@ use Rattle.dvg_cells_core.specs.Core.{Core, vec, jsrl, ends}
 use Rattle.dvg_cells_core.specs.Core as core
 use Rattle.dvg_cells_core.specs.Refines.{Tells, idles, ignores, fetches, drew}
 use Rattle.dvg_cells_core.specs.Refines as refines
-use Rattle.dvg_cells_core.proofs.Whole.{Stands, stand, stand_next, one}
+use Rattle.dvg_cells_core.proofs.CoreSincePowerUp.{Stands, stand, stand_next, one}
 use Rattle.dvg_gen.specs.Bytes.{Met}
 use Rattle.dvg_gen.specs.Run.{Goes, Finished, fate}
 use Rattle.dvg_gen.specs.Told.{Told, Newest, Leaves}
@@ -20,7 +20,7 @@ use Rattle.dvg_cells_motion.specs.Times.{run_ticks}
 use Rattle.dvg_cells_motion.proofs.Machine.{unserved, in_start, both_none, mux_same, stays, held_rests, going_of, none_is}
 use Rattle.dvg_cells_motion.proofs.Spends.{given, cost, of_held, of_low, IsBroken, spends, unspent, finished_holds}
 use Rattle.dvg_cells_motion.proofs.Tied.{Bus, Beside, driven, cores, core_after, after, AtRest, AreServed, ticks_of}
-use Rattle.dvg_cells_motion.proofs.Timing.{Times, by_goes, gone_le, own_few, counted_on, down, none_more, ne_more, all_pins}
+use Rattle.dvg_cells_motion.proofs.TicksOfByte.{Times, by_goes, gone_le, own_few, counted_on, down, none_more, ne_more, all_pins}
 use Rattle.dvg_cells_motion.proofs.TickSums.{few_more, taken_sum, sum_on, owed_sum, still_sum, late_sum}
 use Rattle.dvg_cells_motion.proofs.TickSums.{own_sum, go_sum, end_sum, begin_sum, finish_sum, add_one}
 use Rattle.dvg_cells_motion.proofs.TickSums.{few_less, none_less, within, is_over, goes_less}

@@ -17,7 +17,7 @@ use Rattle.dvg_cells_motion.proofs.Machine.{Phase, rests, runs, waits, all_run, 
 use Rattle.dvg_cells_motion.proofs.Pictures.{both_is_zero, none_or}
 use Rattle.dvg_cells_motion.proofs.Tied as tied_clocks
 use Rattle.dvg_cells_motion.proofs.Tied.{Beside, driven, core_after, IsIdle}
-use Rattle.dvg_cells_motion.proofs.Timing.{Times, later_times, gone, gone_le, gone_ge, own_few, none_more, ne_more, ne_same, down, mux_more}
+use Rattle.dvg_cells_motion.proofs.TicksOfByte.{Times, later_times, gone, gone_le, gone_ge, own_few, none_more, ne_more, ne_same, down, mux_more}
 use Rattle.dvg_cells_motion.proofs.Wiring.{held_same, starts_in, tied, tied_later, tied_both, beside_of, beside_is, wired, all_older, ticks_same, idle_all}
 use Rattle.dvg_cells_board.proofs.Wires.{takes_none}
 

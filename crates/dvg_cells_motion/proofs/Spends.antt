@@ -5,24 +5,24 @@ use Rattle.std.proofs.lemmas.Bool.{cases_lt, lt-ltb, ne_eqb}
 use Rattle.dvg_code.specs.declared.instr.Instr.{Instr}
 use Rattle.dvg_code.specs.declared.instr.Instr.TheVariants.{Vctr, Labs, Halt, Jsrl, Rtsl, Jmpl, Svec}
 use Rattle.dvg_code.specs.Spelling.{Spells, vctr, labs, halt, jsrl, rtsl, jmpl, svec}
-use Rattle.dvg_code.proofs.Reading.{vctr_read, svec_read}
+use Rattle.dvg_code.proofs.FieldsSpell.{vctr_read, svec_read}
 use Rattle.dvg_code.proofs.Unique.{same_spelling, sign_is_bit}
 use Rattle.dvg_gen.specs.declared.beam.Beam.{Beam}
 use Rattle.dvg_gen.specs.Bytes.{Met, met}
 use Rattle.dvg_gen.specs.Run.{Visit, Goes, Finished, Adds, first, one, two, fate, beam_after}
 use Rattle.dvg_gen.specs.Told.{Told, Newest, Leaves, new, starts, resets, meets_hole, takes}
-use Rattle.dvg_gen.proofs.Same.{leaves_same}
+use Rattle.dvg_gen.proofs.OneRun.{leaves_same}
 use Rattle.dvg_cells_core.specs.Cells.{part, joined, add, none}
 use Rattle.dvg_cells_core.specs.Core.{Core, Pins}
 use Rattle.dvg_cells_core.specs.Core as pin
 use Rattle.dvg_cells_core.specs.Refines
 use Rattle.dvg_cells_core.specs.Refines.{ArePins, after, Tells, idles, ignores, fetches, byte_of, told_by, waiting}
 use Rattle.dvg_cells_core.proofs.Machines.{kept}
-use Rattle.dvg_cells_core.proofs.Whole.{Stands}
+use Rattle.dvg_cells_core.proofs.CoreSincePowerUp.{Stands}
 use Rattle.dvg_cells_motion.specs.Machine.{own_ticks, vector_ticks}
 use Rattle.dvg_cells_motion.specs.Pulses.{time}
 use Rattle.dvg_cells_motion.specs.Times.{instr_ticks, run_ticks}
-pub use Rattle.dvg_gen.proofs.Standing.{open_goes as opened_goes}
+pub use Rattle.dvg_gen.proofs.GeneratorAfterHistory.{open_goes as opened_goes}
 
 -- the bytes of an instruction that isn't whole
 abbrev pub of_held : Option ℕ → ℕ

@@ -24,7 +24,7 @@ use Rattle.dvg_cells_motion.specs.Machine.{own_ticks, vector_ticks, TakesTime}
 use Rattle.dvg_cells_motion.proofs.Tied.{Beside, paced, driven, core_after, AreServed, IsServed, IsIdle, ticks_of}
 use Rattle.dvg_cells_motion.proofs.Tied as tied_clocks
 use Rattle.dvg_cells_motion.proofs.Machine.{both_none, both_small, going_of, held_rests, follows_tied, both_one}
-use Rattle.dvg_cells_motion.proofs.Timing.{mux_more, takes_time_tied, none_more as more_none}
+use Rattle.dvg_cells_motion.proofs.TicksOfByte.{mux_more, takes_time_tied, none_more as more_none}
 use Rattle.dvg_cells_motion.proofs.Machine.{zero_or}
 
 -- numbers of one bit

@@ -10,7 +10,7 @@ use Rattle.dvg_gen.specs.Told.{Told, Fed, More, reply}
 use Rattle.dvg_cells_core.specs.Cells.{part, joined, add}
 use Rattle.dvg_cells_core.specs.Core.{Pins}
 use Rattle.dvg_cells_core.specs.Core as core
-use Rattle.dvg_cells_core.proofs.Fitting.{Fits, obeys, reply_is}
+use Rattle.dvg_cells_core.proofs.RegistersFit.{Fits, obeys, reply_is}
 use Rattle.dvg_cells_core.proofs.Machines.{machine_of}
 use Rattle.dvg_cells_wraps.specs.Refines.{core_of, registers}
 use Rattle.dvg_cells_wraps.specs.Wraps as wraps

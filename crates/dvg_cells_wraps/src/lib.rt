@@ -12,14 +12,14 @@ ghost use Rattle.dvg_cells_wraps.specs.Refines.{WrapsRefines, WrapsTells};
 /// the pins are those of the run that the definition of a generator whose stack wraps leaves, as
 /// `WrappingGenerator::feed` has it: `halted`, `at`, `high`, the beam, each stroke, `done` and
 /// `fault`; and the four registers are its return addresses.
-#[tactic(auto, using(crate::proofs::Whole::wraps_refines_law))]
+#[tactic(auto, using(crate::proofs::WrapsSincePowerUp::wraps_refines_law))]
 pub fn wraps_refine()
     ensures { WrapsRefines }
 {}
 
 /// The pins `ends` to `vec_z`, which tell of the clock itself, are what they are of a core whose
 /// stack doesn't wrap.
-#[tactic(auto, using(crate::proofs::Whole::wraps_tells_law))]
+#[tactic(auto, using(crate::proofs::WrapsSincePowerUp::wraps_tells_law))]
 pub fn wraps_tell()
     ensures { WrapsTells }
 {}

@@ -9,7 +9,7 @@ use Rattle.dvg_game_rules.proofs.Bat as bat_told
 use Rattle.dvg_game_rules.proofs.Asteroid as asteroid_told
 use Rattle.dvg_game_rules.proofs.Rocks as rocks_told
 use Rattle.dvg_game_rules.proofs.TestRom as test_rom_told
-use Rattle.dvg_game_content.proofs.Whole.{content_by_bytes}
+use Rattle.dvg_game_content.proofs.ContentFromBytes.{content_by_bytes}
 use Rattle.dvg_closed_board.specs.FirstContent as first_content
 use Rattle.dvg_closed_board.specs.BatContent as bat_content
 use Rattle.dvg_closed_board.specs.AsteroidContent as asteroid_content

@@ -6,7 +6,7 @@ use Rattle.dvg_code.specs.declared.instr.Instr.TheVariants.{Vctr, Labs, Halt, Js
 use Rattle.dvg_code.specs.Fields.{signed}
 use Rattle.dvg_code.specs.Words.{IsWord}
 use Rattle.dvg_code.specs.Spelling.{IsFirst, Spells, halt, jsrl, rtsl, jmpl}
-use Rattle.dvg_code.proofs.Reading.{vctr_read, labs_read, svec_read}
+use Rattle.dvg_code.proofs.FieldsSpell.{vctr_read, labs_read, svec_read}
 
 -- the VCTR of two words
 vctr_of : (first second : ℕ) → first < 40960 → IsWord second → (instr : Instr) × Spells instr (first ∷ second ∷ [])

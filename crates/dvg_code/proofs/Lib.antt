@@ -1,4 +1,4 @@
-pub mod Reading
+pub mod FieldsSpell
 pub mod Rows
 pub mod Beginnings
 pub mod Unique

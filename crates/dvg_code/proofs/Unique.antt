@@ -6,7 +6,7 @@ use Rattle.dvg_code.specs.declared.instr.Instr.TheVariants.{Jsrl, Jmpl, Svec}
 use Rattle.dvg_code.specs.Ranges.{InRange}
 use Rattle.dvg_code.specs.Spelling.{IsFirst, IsSignOf, LongWord, ShortWord, Spells, vctr, labs, halt, jsrl, rtsl, jmpl, svec, canon, word_count}
 use Rattle.dvg_code.specs.Cutting.{Fronts, IsCut, IsRest}
-use Rattle.dvg_code.proofs.Reading.{canon_spells}
+use Rattle.dvg_code.proofs.FieldsSpell.{canon_spells}
 
 -- a sign is a bit
 pub sign_is_bit : (n : ℤ) (sign : ℕ) → IsSignOf n sign → sign < 2

@@ -67,7 +67,7 @@ fn two_words(first: u16, second: u16) -> Words
 
 /// Returns the canonical words of `code`: every ignored bit is 0, and so is the sign of a magnitude
 /// of zero (this project's own choice).
-#[tactic(auto, using(crate::proofs::Reading::written_spells))]
+#[tactic(auto, using(crate::proofs::FieldsSpell::written_spells))]
 pub fn encode(code: &Code) -> Words
     ensures canonical { result.items ≡ canon code.now }
     ensures spells { Spells code.now result.items }

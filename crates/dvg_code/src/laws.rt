@@ -9,7 +9,7 @@ pub fn one_spelling()
 {}
 
 /// The canonical words of an instruction in range spell it.
-#[tactic(auto, using(crate::proofs::Reading::canon_spells))]
+#[tactic(auto, using(crate::proofs::FieldsSpell::canon_spells))]
 pub fn canonical_spells()
     ensures { CanonicalSpells }
 {}

@@ -1,9 +1,9 @@
-pub mod Found
-pub mod Judged
-pub mod Told
+pub mod FoundInAnswer
+pub mod JudgeSays
+pub mod QuestionsApart
 pub mod Staged
-pub mod Wanted
-pub mod Parted
-pub mod Worded
+pub mod HighByteWanted
+pub mod StateParts
+pub mod PartsInWords
 pub mod Restored
 pub mod Resumed

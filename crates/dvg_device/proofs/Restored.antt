@@ -15,8 +15,8 @@ use Rattle.dvg_log.specs.declared.entry.Entry.TheVariants.{Cleared}
 use Rattle.dvg_code.specs.Spelling.{IsFirst}
 use Rattle.dvg_device.specs.Devices.{Answered, Generator, Held, ResumeAnswers, Wrapping, WrappingResumes}
 use Rattle.dvg_device.specs.Wrappings.{CanWrap, saved_of, wrapping_of}
-use Rattle.dvg_device.proofs.Parted.{all_reversed}
-use Rattle.dvg_device.proofs.Worded.{read_again}
+use Rattle.dvg_device.proofs.StateParts.{all_reversed}
+use Rattle.dvg_device.proofs.PartsInWords.{read_again}
 use Rattle.dvg_device.specs.Laws.{AllSuit, Fits, ToldInTurn, restored}
 use Rattle.dvg_device.specs.States.{CanBeSaved, CanStand, TakesPart, drawing_parts, drawn_so_far, part_in, part_of_stroke}
 use Rattle.dvg_device.specs.States.{parts_of, stroke_parts, told, unbegun, with_stack, word_of}

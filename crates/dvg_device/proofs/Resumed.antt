@@ -16,9 +16,9 @@ use Rattle.dvg_driver.specs.declared.state.DriverState.{DriverState}
 use Rattle.dvg_driver.specs.Phases.{frame_in}
 use Rattle.dvg_driver.specs.Saved.{IsState, IsWritable, cursor_in, driving_in, stage_in}
 use Rattle.dvg_driver.specs.Stands.{Driving}
-use Rattle.dvg_driver.proofs.Standing.{allows_state, same_driving}
+use Rattle.dvg_driver.proofs.DriverAfterLife.{allows_state, same_driving}
 use Rattle.dvg_world.specs.Standing.{KeepsLogs, State}
-use Rattle.dvg_world.proofs.Standing.{keeps_between, keeps_machine, keeps_stage, world_of}
+use Rattle.dvg_world.proofs.EventsAddLines.{keeps_between, keeps_machine, keeps_stage, world_of}
 use Rattle.dvg_device.specs.Bits.{bit}
 use Rattle.dvg_device.specs.Devices.{Answered, Held, ResumesIn, World, WorldResumes}
 use Rattle.dvg_device.specs.Laws.{IsWorldTaken, TellsDraft, ToldInTurn, restored}
@@ -35,7 +35,7 @@ use Rattle.dvg_device.specs.declared.reply.Reply.TheVariants as replies
 use Rattle.dvg_device.specs.declared.reply.Reply.TheVariants.{NoMemory, NoState, Opened, WrongSize}
 use Rattle.dvg_device.specs.declared.request.Request.TheVariants.{Push, ResumeWorld}
 use Rattle.dvg_device.proofs.Restored.{goes_on, restored_stands, told_state}
-use Rattle.dvg_device.proofs.Worded.{bit_few, flag_again}
+use Rattle.dvg_device.proofs.PartsInWords.{bit_few, flag_again}
 
 half_few : (half : Half) → half_bit half ≤ 1
 half_few H0 = omega arith

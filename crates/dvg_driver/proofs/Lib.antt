@@ -1,4 +1,4 @@
 pub mod Places
 pub mod Shapes
-pub mod Standing
+pub mod DriverAfterLife
 pub mod OneAction

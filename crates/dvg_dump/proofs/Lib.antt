@@ -1,7 +1,7 @@
 pub mod OneEnd
-pub mod Drawing
-pub mod Stepping
-pub mod Telling
+pub mod OneStroke
+pub mod OneWordMore
+pub mod TracerTells
 pub mod Rows
 pub mod Silent
-pub mod Moved
+pub mod RecordedMoves

@@ -7,7 +7,7 @@ use Rattle.dvg_gen.specs.declared.taken.GenFault.{GenFault}
 use Rattle.dvg_gen.specs.declared.taken.GenFault.TheVariants.{Hole}
 use Rattle.dvg_gen.specs.Run.{Visit, Fate, Goes, Finished, Breaks, fate, wanted, Adds, first, one, two, Runs, begins, fetches}
 use Rattle.dvg_gen.specs.Told.{Told, Fed, Newest, nothing, goes_on as goes_by, grown, Leaves, new, starts, takes}
-use Rattle.dvg_gen.proofs.Same.{leaves_more, leaves_same, runs_same}
+use Rattle.dvg_gen.proofs.OneRun.{leaves_more, leaves_same, runs_same}
 use Rattle.dvg_dump.specs.Ends.{End, Complete, Broken, Endless, Ends, drawn_by, halts, breaks, meets_hole, goes_on}
 
 -- a shorter run of it fetches one word more

@@ -14,13 +14,13 @@ use Rattle.dvg_gen.specs.Drawing.{drawn}
 use Rattle.dvg_gen.specs.Machine.{Machine, HasTaken}
 use Rattle.dvg_gen.specs.Run.{Visit, Goes, fate, wanted, beam_after, Adds, first, one, two, Runs, begins, fetches}
 use Rattle.dvg_gen.specs.Told.{Told, nothing, wants}
-use Rattle.dvg_gen.proofs.Same.{leaves_same, runs_same}
+use Rattle.dvg_gen.proofs.OneRun.{leaves_same, runs_same}
 use Rattle.dvg_mem.specs.Memory.{IsImage, IsRom, fetched, rom_word}
 use Rattle.dvg_mem.proofs.Roms.{rom_some, rom_there, word_fits}
 use Rattle.dvg_dump.specs.Ends.{DrawsNoStroke, drawn_by}
 use Rattle.dvg_dump.specs.Tracing.{Trail}
 use Rattle.dvg_dump.proofs.OneEnd.{as_far, some_end}
-use Rattle.dvg_dump.proofs.Stepping.{Followed, wanted_is}
+use Rattle.dvg_dump.proofs.OneWordMore.{Followed, wanted_is}
 
 -- the RAM's words have 16 bits
 ram_fits : (ram : List ℕ) (w : ℕ) → IsImage ram → w < 0x400 → IsWord (word_in ram w)

@@ -9,13 +9,13 @@ pub fn one_end()
 {}
 
 /// The strokes of a run are those that are recorded of its instructions, in order.
-#[tactic(auto, using(crate::proofs::Drawing::strokes_of_trace))]
+#[tactic(auto, using(crate::proofs::OneStroke::strokes_of_trace))]
 pub fn strokes_of_trace()
     ensures { StrokesOfTrace }
 {}
 
 /// The moves of a run are those that are recorded of its instructions, in order.
-#[tactic(auto, using(crate::proofs::Moved::moves_of_trace))]
+#[tactic(auto, using(crate::proofs::RecordedMoves::moves_of_trace))]
 pub fn moves_of_trace()
     ensures { MovesOfTrace }
 {}

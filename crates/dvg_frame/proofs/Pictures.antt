@@ -9,7 +9,7 @@ use Rattle.dvg_frame.specs.declared.op.OpKind.{OpKind}
 use Rattle.dvg_frame.specs.declared.place.Place.{Place}
 use Rattle.dvg_frame.specs.Steps.{Stands}
 use Rattle.dvg_frame.specs.Picture.{End, AtHalt, AtReturn, Draws, halts, returns, moves, jumps, call_halts, calls, IsPicture}
-use Rattle.dvg_frame.proofs.Judged.{same_standing}
+use Rattle.dvg_frame.proofs.FaultsAtPlaces.{same_standing}
 
 module _ (F : List OpKind) (R : List ℕ) where
   -- what is drawn where this act stands

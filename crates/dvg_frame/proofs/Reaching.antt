@@ -21,7 +21,7 @@ use Rattle.dvg_frame.specs.own.Ways.{IsLeast, StandsSo}
 use Rattle.dvg_frame.specs.own.Sweeps.{BadPair, FinePair, Follows, StaysIn, Sweeps}
 use Rattle.dvg_frame.proofs.Marks.{same_grows, held_grows, push_grows, both_grow, none_marked, is_held, push_marked}
 use Rattle.dvg_frame.proofs.Swept.{few_ops, pair_in, reached_pair, stays, begins_sweep, is_reached, fine_step, bad_step}
-use Rattle.dvg_frame.proofs.Looked.{look}
+use Rattle.dvg_frame.proofs.LeastFaults.{look}
 
 place_low : (p : Place) → IsPlace p → place_index p < PLACES
 place_low (InFrame i) inside = omega arith

@@ -17,7 +17,7 @@ use Rattle.dvg_frame.specs.own.Straight.{RunsStraight, halts, draws}
 use Rattle.dvg_frame.specs.own.Frames.{IsFrame}
 use Rattle.dvg_frame.proofs.Bounded.{Drawn, drawn_moves, drawn_halts}
 use Rattle.dvg_frame.proofs.Firsts.{closed_by}
-use Rattle.dvg_frame.proofs.Judged.{same_standing}
+use Rattle.dvg_frame.proofs.FaultsAtPlaces.{same_standing}
 
 -- the first of the items from number i on
 first_at : {A : Type 0} (xs : List A) (i : ℕ) (x : A) (rest : List A) → drop i xs ≡ x ∷ rest → slice_get xs i ≡ Some x

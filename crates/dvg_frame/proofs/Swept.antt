@@ -28,7 +28,7 @@ use Rattle.dvg_frame.specs.own.Growth.{Grows}
 use Rattle.dvg_frame.specs.own.Pairs.{IsPlace, IsPair, pair_of, first_pair, index}
 use Rattle.dvg_frame.specs.own.Ways.{way, IsPlaceOf, StandsSo, IsLeast}
 use Rattle.dvg_frame.specs.own.Sweeps.{ReachedPair, BadPair, FinePair, Follows, StaysIn, IsFound, IsUpTo, IsDone, Sweeps}
-use Rattle.dvg_frame.proofs.Judged.{same_standing}
+use Rattle.dvg_frame.proofs.FaultsAtPlaces.{same_standing}
 use Rattle.dvg_frame.proofs.Sizes.{length-le-size}
 use Rattle.dvg_frame.proofs.Marks.{contains_nil, both_grow}
 

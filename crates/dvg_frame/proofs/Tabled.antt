@@ -27,9 +27,9 @@ use Rattle.dvg_frame.specs.own.Ways.{way, span, StandsSo, IsPlaceOf, EndsWithin}
 use Rattle.dvg_frame.specs.own.Tables.{AllFine, Knows, known_at, KeepsKnown, end_of, FitsAt, IsDrawnFrom, IsKnown}
 use Rattle.dvg_frame.specs.own.Tables.{IsTable, Next, StepsOn, IsGood, IsReady, Linked, HasChain, onward, last_drawn, IsLonger}
 use Rattle.dvg_frame.specs.own.Tables.{IsCalled, places}
-use Rattle.dvg_frame.proofs.Judged.{same_standing}
+use Rattle.dvg_frame.proofs.FaultsAtPlaces.{same_standing}
 use Rattle.dvg_frame.proofs.Marks.{same_place}
-use Rattle.dvg_frame.proofs.Knowing.{put_here, put_other}
+use Rattle.dvg_frame.proofs.OneEntryMore.{put_here, put_other}
 use Rattle.dvg_frame.proofs.Swept.{few_ops, in_place, after_in, target_in, reached_pair}
 use Rattle.dvg_frame.proofs.Walks.{goes_from, goes_once, leads_from}
 use Rattle.dvg_frame.proofs.Bounded.{Drawn as DrawnSo, drawn_moves, drawn_jumps, drawn_call_halts, drawn_calls}

@@ -6,7 +6,7 @@ use Rattle.dvg_frame.specs.declared.place.Place.{Place}
 use Rattle.dvg_frame.specs.Steps.{Stands, Leads, on, jump, call, back, Reached, step, Closed}
 use Rattle.dvg_frame.specs.Loops.{Walks, none, more}
 use Rattle.dvg_frame.specs.own.Tables.{Next, StepsOn}
-use Rattle.dvg_frame.proofs.Judged.{same_standing}
+use Rattle.dvg_frame.proofs.FaultsAtPlaces.{same_standing}
 
 module _ (F : List OpKind) (R : List ℕ) where
   goes_by : {p q : Place} {d e : ℕ} → Leads F R p d q e → e ≡ d → StepsOn F R p q

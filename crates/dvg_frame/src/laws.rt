@@ -25,7 +25,7 @@ pub fn one_picture()
 {}
 
 /// A closed draft has a loop exactly where steps at one depth lead from a reached pair back to it.
-#[tactic(auto, using(crate::proofs::Turns::loop_comes_back, crate::proofs::Turns::back_loops))]
+#[tactic(auto, using(crate::proofs::Loops::loop_comes_back, crate::proofs::Loops::back_loops))]
 pub fn loops_come_back()
     ensures { LoopsComeBack }
 {}

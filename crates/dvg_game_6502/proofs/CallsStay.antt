@@ -18,11 +18,11 @@ use Rattle.dvg_game_6502.proofs.Claims.{AreHard, Nothing, Claim, Unknown, Ready,
 use Rattle.dvg_game_6502.proofs.Claims.{Means, Note, is_known, Low, Blank, Aims, Inside}
 use Rattle.dvg_game_6502.proofs.Notes.{lookup, noted, notes}
 use Rattle.dvg_game_6502.proofs.Rows.{byte_at, some_same}
-use Rattle.dvg_game_6502.proofs.Staying.{Good, Level, below, home, noted_is_code}
-use Rattle.dvg_game_6502.proofs.Turning.{Turned, turned}
+use Rattle.dvg_game_6502.proofs.CallPlaces.{Good, Level, below, home, noted_is_code}
+use Rattle.dvg_game_6502.proofs.CallSteps.{Turned, turned}
 use Rattle.dvg_game_6502.proofs.HardLogs.{hard_session}
 use Rattle.dvg_game_6502.proofs.Logs.{log_is_passive}
-use Rattle.dvg_game_6502.proofs.Opened.{code_guarded}
+use Rattle.dvg_game_6502.proofs.OpenCall.{code_guarded}
 use Rattle.dvg_game_6502.proofs.Sessions.{further, further_turns, session_goes_on}
 
 -- the driver's bytes are guarded

@@ -22,7 +22,7 @@ use Rattle.dvg_game_6502.proofs.CallsStay.{calls_stay}
 use Rattle.dvg_game_6502.proofs.GameSteps.{bytes_pushed, pushed_below}
 use Rattle.dvg_game_6502.proofs.Logs.{log_is_passive, upon}
 use Rattle.dvg_game_6502.proofs.Stages.{Back, jmp, jsr, InDriver, InNmi, IsAccepted, safe_at}
-use Rattle.dvg_game_6502.proofs.Staying.{untouched}
+use Rattle.dvg_game_6502.proofs.CallPlaces.{untouched}
 
 turned : (s : ℕ) (cpu : Cpu) → at_return s cpu ≡ false → turn s cpu ≡ step cpu
 turned s cpu not_there = ap (λ (t : Bool). if t then cpu else step cpu) not_there

@@ -21,7 +21,7 @@ use Rattle.dvg_game_rules.proofs.Memory.{between, either, other}
 use Rattle.dvg_game_6502.specs.Play
 use Rattle.dvg_game_6502.specs.Play.{AreBytes, Begins, done, interrupted, made}
 use Rattle.dvg_game_6502.specs.Open.{InRom, Rested}
-use Rattle.dvg_game_6502.proofs.Along.{along, Followed, follow, homeless, restarts_same}
+use Rattle.dvg_game_6502.proofs.CheckerFollows.{along, Followed, follow, homeless, restarts_same}
 use Rattle.dvg_game_6502.proofs.Bearers.{Bearer}
 use Rattle.dvg_game_6502.proofs.Stages.{InGame, Rests, IsAccepted, safe_at}
 

@@ -9,7 +9,7 @@ use Rattle.dvg_game_rules.specs.Kinds.{Jump, Call, Return, Finish, Wild, kind, s
 use Rattle.dvg_game_rules.specs.Machine.{State, calling, is_driver, reset_vector, restarting, word_at}
 use Rattle.dvg_game_rules.specs.Safe.{ComesBack, InCase, IsCalled, IsSafeBy}
 use Rattle.dvg_game_6502.specs.Games.{may_call}
-use Rattle.dvg_game_6502.proofs.Along.{is_finish}
+use Rattle.dvg_game_6502.proofs.CheckerFollows.{is_finish}
 
 -- a jump, a call, an RTI, or another one
 pub data Leap : Type 0 where

@@ -15,10 +15,10 @@ use Rattle.dvg_game_rules.specs.Safe.{IsSafe, IsSafeBy}
 use Rattle.dvg_game_rules.specs.Alike.{of_cpu}
 use Rattle.dvg_game_rules.proofs.Facts.{inside}
 use Rattle.dvg_game_rules.proofs.Early.{same_came}
-use Rattle.dvg_game_rules.proofs.Local.{ticked}
+use Rattle.dvg_game_rules.proofs.LocalKinds.{ticked}
 use Rattle.dvg_game_6502.specs.Play
 use Rattle.dvg_game_6502.specs.Play.{AreBytes, done, fresh}
-use Rattle.dvg_game_6502.proofs.Along.{Followed, along, amid_stays, follow, is_finish, restarts_same}
+use Rattle.dvg_game_6502.proofs.CheckerFollows.{Followed, along, amid_stays, follow, is_finish, restarts_same}
 use Rattle.dvg_game_6502.proofs.Bearers.{Bearer}
 use Rattle.dvg_game_6502.proofs.DriverSteps.{two_levels}
 use Rattle.dvg_game_6502.proofs.GameSteps.{outside_code, pushing}

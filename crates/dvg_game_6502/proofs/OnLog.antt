@@ -11,8 +11,8 @@ use Rattle.dvg_game_6502.specs.Games.{AreOfCalls, GamesCall, VectorsCall, access
 use Rattle.dvg_game_6502.proofs.Bearers.{Bearer, Ended}
 use Rattle.dvg_game_6502.proofs.BegunFrames.{labs_begins}
 use Rattle.dvg_game_6502.proofs.GameSteps.{game_begins}
-use Rattle.dvg_game_6502.proofs.Growing.{seen_both}
-use Rattle.dvg_game_6502.proofs.Opened.{driver_begins, driver_ends, driver_steps, has_come, nmi_passes, refreshed}
+use Rattle.dvg_game_6502.proofs.SeenOfLogs.{seen_both}
+use Rattle.dvg_game_6502.proofs.OpenCall.{driver_begins, driver_ends, driver_steps, has_come, nmi_passes, refreshed}
 use Rattle.dvg_game_6502.proofs.Outside.{stage_turns}
 use Rattle.dvg_game_6502.proofs.Plays.{Brought, by_bytes, by_content, stage_does, stage_nmi}
 use Rattle.dvg_game_6502.proofs.Stages.{InDriver, InGame, IsAccepted, Stage}

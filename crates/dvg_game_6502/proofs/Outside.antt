@@ -10,7 +10,7 @@ use Rattle.dvg_calls_6502.specs.Calls.{Call, Routine}
 use Rattle.dvg_game_rules.specs.Machine.{State, IsTurned, is_outside, turns}
 use Rattle.dvg_game_rules.proofs.Facts.{both_true}
 use Rattle.dvg_game_rules.proofs.Memory.{between, either}
-use Rattle.dvg_game_rules.proofs.Turning.{low_inside, readable_inside, rom_inside}
+use Rattle.dvg_game_rules.proofs.OutsideTurns.{low_inside, readable_inside, rom_inside}
 use Rattle.dvg_game_6502.specs.Play.{AreBytes}
 use Rattle.dvg_game_6502.specs.Open.{InRom}
 use Rattle.dvg_game_6502.proofs.Bearers.{Bearer}

@@ -15,10 +15,10 @@ use Rattle.dvg_game_rules.proofs.Facts.{both_true, under}
 use Rattle.dvg_game_6502.specs.Play
 use Rattle.dvg_game_6502.specs.Play.{AreBytes, IsPlay, done, interrupted, made}
 use Rattle.dvg_game_6502.specs.Games.{Content, Enters, IsTable, IsWord, calls_at, may_call, never_calls}
-use Rattle.dvg_game_6502.proofs.Along.{calls_as, is_finish}
+use Rattle.dvg_game_6502.proofs.CheckerFollows.{calls_as, is_finish}
 use Rattle.dvg_game_6502.proofs.Bearers.{Bearer}
 use Rattle.dvg_game_6502.proofs.Bytes.{stage_bytes}
-use Rattle.dvg_game_6502.proofs.Calling.{game_calls}
+use Rattle.dvg_game_6502.proofs.IntoDriver.{game_calls}
 use Rattle.dvg_game_6502.proofs.DriverSteps.{driver_nmi, driver_step}
 use Rattle.dvg_game_6502.proofs.GameSteps.{game_nmi, game_steps, made_none, nowhere}
 use Rattle.dvg_game_6502.proofs.Leaps.{calling_may}

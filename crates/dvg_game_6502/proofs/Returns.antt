@@ -22,11 +22,11 @@ use Rattle.dvg_game_rules.specs.Machine.{step, steps, called, word_at}
 use Rattle.dvg_game_rules.specs.Machine as machine
 use Rattle.dvg_game_rules.specs.Alike.{AreAlike, of_cpu}
 use Rattle.dvg_game_rules.proofs.Facts.{both_true, inside}
-use Rattle.dvg_game_rules.proofs.Local.{ticked}
+use Rattle.dvg_game_rules.proofs.LocalKinds.{ticked}
 use Rattle.dvg_game_rules.proofs.Memory.{either}
 use Rattle.dvg_game_6502.specs.Play.{AreBytes, done, fresh}
 use Rattle.dvg_game_6502.specs.Open.{IsIn}
-use Rattle.dvg_game_6502.proofs.Along.{as_cpu}
+use Rattle.dvg_game_6502.proofs.CheckerFollows.{as_cpu}
 use Rattle.dvg_game_6502.proofs.Bearers.{Bearer, Ended}
 use Rattle.dvg_game_6502.proofs.DriverSteps.{choice, left_as, safe}
 use Rattle.dvg_game_6502.proofs.Stages.{Back, jmp, jsr, InDriver, InGame, NotBlank, IsAccepted}

@@ -9,7 +9,7 @@ use Rattle.dvg_calls_6502.specs.Calls.{Routine, Reset, Tick, Ticks, Run, Offer, 
 use Rattle.dvg_calls_6502.specs.Calls.{entry, frame_of, is_table, Follows, IsSessionBy, UnlessReset}
 use Rattle.dvg_calls_6502.specs.Programs.{Tells}
 use Rattle.dvg_game_6502.specs.Open.{Rested}
-use Rattle.dvg_game_6502.proofs.Going.{and_then, grows, spared}
+use Rattle.dvg_game_6502.proofs.NextMemory.{and_then, grows, spared}
 
 -- the newest call, one step later, which finds this memory
 abbrev pub further : Call → (ℕ → ℕ) → Call

@@ -13,9 +13,9 @@ use Rattle.dvg_game_rules.proofs.Facts.{both_true}
 use Rattle.dvg_game_rules.proofs.Between.{home_mem}
 use Rattle.dvg_game_rules.proofs.Early.{same_came}
 use Rattle.dvg_game_rules.proofs.Memory.{other}
-use Rattle.dvg_game_rules.proofs.Local.{ticked}
-use Rattle.dvg_game_rules.proofs.Standing.{Good, Runs, Handles, low as low_of}
-use Rattle.dvg_game_rules.proofs.Whole.{checked_is_safe, good_run}
+use Rattle.dvg_game_rules.proofs.LocalKinds.{ticked}
+use Rattle.dvg_game_rules.proofs.RunInvariant.{Good, Runs, Handles, low as low_of}
+use Rattle.dvg_game_rules.proofs.RunsAreSafe.{checked_is_safe, good_run}
 use Rattle.dvg_game_6502.specs.Interrupt.{IsSpared, NmiSpares}
 
 -- one instruction of it

@@ -9,7 +9,7 @@ use Rattle.dvg_game_rules.specs.Machine.{State, IsRun, calling, is_outside, rest
 use Rattle.dvg_game_rules.specs.Checker.{Notes, accepts}
 use Rattle.dvg_game_rules.specs.Safe.{IsSafe}
 use Rattle.dvg_game_rules.specs.Alike.{of_cpu}
-use Rattle.dvg_game_rules.proofs.Whole.{checked_is_safe}
+use Rattle.dvg_game_rules.proofs.RunsAreSafe.{checked_is_safe}
 use Rattle.dvg_game_6502.specs.Play.{AreBytes}
 use Rattle.dvg_game_6502.specs.Open.{InRom, Rested}
 use Rattle.dvg_game_6502.specs.Interrupt.{IsSpared}

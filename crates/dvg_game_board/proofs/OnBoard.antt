@@ -15,15 +15,15 @@ use Rattle.dvg_calls_board.specs.Machine.{SharesRam}
 use Rattle.dvg_game_6502.specs.Play.{AreBytes, done}
 use Rattle.dvg_game_6502.specs.Open.{IsIn}
 use Rattle.dvg_game_6502.proofs.Bearers.{Bearer, Ended, IsChecked}
-use Rattle.dvg_game_6502.proofs.Opened.{has_come}
+use Rattle.dvg_game_6502.proofs.OpenCall.{has_come}
 use Rattle.dvg_game_6502.proofs.Returns.{ended_kept, needed_kept}
 use Rattle.dvg_game_board.specs.Cabinet.{AreMade, no_more, one_more}
 use Rattle.dvg_game_board.proofs.Open.{OnBoard, board_accesses, board_begins, board_passes, board_refreshed}
 use Rattle.dvg_game_board.proofs.Open.{board_steps, is_open}
-use Rattle.dvg_game_board.proofs.Quiet.{quiet}
-use Rattle.dvg_game_board.proofs.Sharing.{Laws, shared}
-use Rattle.dvg_game_board.proofs.Single.{AreFew, few}
-use Rattle.dvg_game_board.proofs.Standing.{Last, stand_ends}
+use Rattle.dvg_game_board.proofs.GameSparesBoard.{quiet}
+use Rattle.dvg_game_board.proofs.SharedRam.{Laws, shared}
+use Rattle.dvg_game_board.proofs.OneAccess.{AreFew, few}
+use Rattle.dvg_game_board.proofs.CallProgress.{Last, stand_ends}
 
 -- what is offered is checked
 pub by_check : (R : List ℕ) (r : Routine) → IsChecked R r → IsCheckedTable R r

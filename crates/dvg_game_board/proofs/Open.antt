@@ -8,7 +8,7 @@ use Rattle.dvg_calls_6502.specs.Calls as calls_of
 use Rattle.dvg_calls_6502.specs.Calls.{Routine, Call, bounds, entry, frame_of, has_returned, is_offered, UnlessReset}
 use Rattle.dvg_calls_6502.specs.Programs.{Tells}
 use Rattle.dvg_calls_6502.specs.Routines.{Enters}
-use Rattle.dvg_calls_6502.proofs.Growing.{seen_append}
+use Rattle.dvg_calls_6502.proofs.LogsGrow.{seen_append}
 use Rattle.dvg_cells_board.specs.Board.{Board, Bus}
 use Rattle.dvg_cells_board.specs.Clocks as clocked
 use Rattle.dvg_cells_board.specs.Clocks.{IsBus, IsServed}
@@ -17,9 +17,9 @@ use Rattle.dvg_calls_board.specs.Machine.{IsIdle, Makes, SharesRam, accesses_of}
 use Rattle.dvg_game_6502.specs.Play.{done, fresh}
 use Rattle.dvg_game_6502.specs.Open.{InRom, IsIn, IsOpen, Rested}
 use Rattle.dvg_game_6502.proofs.Flags.{opens, told}
-use Rattle.dvg_game_6502.proofs.Opened.{after_step, begun, passed, refreshed, returned_is, same_as_left, stepped}
+use Rattle.dvg_game_6502.proofs.OpenCall.{after_step, begun, passed, refreshed, returned_is, same_as_left, stepped}
 use Rattle.dvg_game_6502.proofs.Sessions.{further}
-use Rattle.dvg_game_board.proofs.Standing.{Stand, stand_accesses, stand_begins, stand_steps, stand_waits}
+use Rattle.dvg_game_board.proofs.CallProgress.{Stand, stand_accesses, stand_begins, stand_steps, stand_waits}
 
 -- in a call, which the machine does on the board; whatever the flag will say
 abbrev pub OnBoard : (R image : List ℕ) (held : ℕ → ℕ) → Routine → ℕ → List Call → Cpu → List Access → List Bus → Type 0

@@ -29,13 +29,13 @@ use Rattle.dvg_game_board.specs.Cabinet.{IsCabinet, powers, waits, reads, resets
 use Rattle.dvg_game_board.specs.Cabinet.{turns, written, AreAlike, AreMade, no_more, one_more}
 use Rattle.dvg_game_board.specs.Cabinet as cabinet
 use Rattle.dvg_game_board.specs.Keeps.{GamesKeep, GamesLeaveBoard, Keeps, VectorsKeep}
-use Rattle.dvg_game_board.proofs.Alike.{Same, itself, joins, read_elsewhere, same_clock, same_idle, same_makes, same_served}
-use Rattle.dvg_game_board.proofs.Idle.{ram_stays}
+use Rattle.dvg_game_board.proofs.BoardsAfterLooks.{Same, itself, joins, read_elsewhere, same_clock, same_idle, same_makes, same_served}
+use Rattle.dvg_game_board.proofs.UnwrittenRam.{ram_stays}
 use Rattle.dvg_game_board.proofs.OnBoard.{on_board}
 use Rattle.dvg_game_board.proofs.Open.{board_waits}
-use Rattle.dvg_game_board.proofs.Quiet.{quiet}
-use Rattle.dvg_game_board.proofs.Sharing.{Laws}
-use Rattle.dvg_game_board.proofs.Standing.{Comes, Stand, level, behind, leaves, program_waits, so_far}
+use Rattle.dvg_game_board.proofs.GameSparesBoard.{quiet}
+use Rattle.dvg_game_board.proofs.SharedRam.{Laws}
+use Rattle.dvg_game_board.proofs.CallProgress.{Comes, Stand, level, behind, leaves, program_waits, so_far}
 
 -- clocks that make these accesses in one run make them in another one that is alike
 record Shown (R : List ℕ) (held : ℕ → ℕ) (log : List Access) (shown newer : List Bus) : Type 0 where

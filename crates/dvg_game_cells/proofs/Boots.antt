@@ -16,33 +16,33 @@ use Rattle.dvg_game_rules.specs.Alike.{idle}
 use Rattle.dvg_game_rules.proofs.Facts.{both_true, inside}
 use Rattle.dvg_game_rules.proofs.Early.{Early, IsBack, early_begins, early_beside, early_loaded, early_place, early_safe, early_steps}
 use Rattle.dvg_game_rules.proofs.Early.{early_time, early_turns}
-use Rattle.dvg_game_rules.proofs.Standing.{Handles, Runs}
+use Rattle.dvg_game_rules.proofs.RunInvariant.{Handles, Runs}
 use Rattle.dvg_game_rules.proofs.Safety.{IsBeside, beside_of}
 use Rattle.dvg_game_rules.proofs.Starting.{boot_safe, steps_on}
-use Rattle.dvg_game_rules.proofs.Turning.{rom_inside}
+use Rattle.dvg_game_rules.proofs.OutsideTurns.{rom_inside}
 use Rattle.dvg_calls_cells.specs.Cycles.{Two, Turn, acts, IsQuiet, AreQuiet, cycles_of}
 use Rattle.dvg_calls_cells.specs.Steps.{instr_of}
 use Rattle.dvg_calls_cells.specs.Played.{at_rest, older_after, cells_after}
-use Rattle.dvg_calls_cells.proofs.Quiet.{made_more, write_append, write_both}
-use Rattle.dvg_calls_cells.proofs.Seen.{fetched_quiet}
+use Rattle.dvg_calls_cells.proofs.BoardLeftAlone.{made_more, write_append, write_both}
+use Rattle.dvg_calls_cells.proofs.SeenAccesses.{fetched_quiet}
 use Rattle.dvg_game_6502.specs.Play.{AreBytes, Begins}
 use Rattle.dvg_game_6502.proofs.Bytes.{done_bytes}
 use Rattle.dvg_game_6502.proofs.GameSteps.{bytes_pushed}
 use Rattle.dvg_game_6502.proofs.Stages.{IsAccepted}
 use Rattle.dvg_game_board.specs.Cabinet.{IsCabinet, begins}
-use Rattle.dvg_game_board.proofs.Quiet.{quiet_by}
+use Rattle.dvg_game_board.proofs.GameSparesBoard.{quiet_by}
 use Rattle.dvg_game_cells.specs.Keeps.{IsBoot, by_nmi, by_return, by_step, by_turn}
-use Rattle.dvg_game_cells.proofs.Answering.{InRom, is_direct, tame_fetched}
-use Rattle.dvg_game_cells.proofs.Claims.{tame_writes}
-use Rattle.dvg_game_cells.proofs.Doing.{AtTxs, Boots, Doing, Shares, Task, calms, counted, works, stands, starts, handles}
-use Rattle.dvg_game_cells.proofs.Ends.{Done, Half, settle, settle_boot}
-use Rattle.dvg_game_cells.proofs.Known.{safe_direct}
+use Rattle.dvg_game_cells.proofs.InstructionReads.{InRom, is_direct, tame_fetched}
+use Rattle.dvg_game_cells.proofs.ReadsBeforeWrites.{tame_writes}
+use Rattle.dvg_game_cells.proofs.CellsTask.{AtTxs, Boots, Doing, Shares, Task, calms, counted, works, stands, starts, handles}
+use Rattle.dvg_game_cells.proofs.TaskEnds.{Done, Half, settle, settle_boot}
+use Rattle.dvg_game_cells.proofs.CabinetProcessor.{safe_direct}
 use Rattle.dvg_game_cells.proofs.Memory.{writes_both}
 use Rattle.dvg_game_cells.proofs.Plays.{written_quiet}
 use Rattle.dvg_game_cells.proofs.Snoc.{counts}
-use Rattle.dvg_game_cells.proofs.Timing.{Timed, at_least, at_most, timely}
-use Rattle.dvg_game_cells.proofs.Turned
-use Rattle.dvg_game_cells.proofs.Turned.{made_both}
+use Rattle.dvg_game_cells.proofs.NmiDue.{Timed, at_least, at_most, timely}
+use Rattle.dvg_game_cells.proofs.CyclesFind
+use Rattle.dvg_game_cells.proofs.CyclesFind.{made_both}
 use Rattle.dvg_game_cells.proofs.Vectors.{all_quiet, doing_next, entered, half_quiet, nmi_done, nmi_half, nmi_time, nmi_unread, vectors_in}
 use Rattle.dvg_game_cells.proofs.Vectors.{vectors_turn, with_vectors}
 
@@ -99,7 +99,7 @@ module _ (R image : List ℕ) (held rom : ℕ → ℕ) (start : ℕ) (cpu : Cpu)
   On spot clocks = IsCabinet R image held rom start spot clocks
 
   abbrev Claim : List Turn → Type 0
-  Claim list = Turned.Claim R image held rom start cpu older cells work calm list
+  Claim list = CyclesFind.Claim R image held rom start cpu older cells work calm list
 
   -- an instruction in the ROM, where no NMI is due
   record Ready : Type 0 where
@@ -111,22 +111,22 @@ module _ (R image : List ℕ) (held rom : ℕ → ℕ) (start : ℕ) (cpu : Cpu)
   module _ (is : Ready) where
     claim_of : (list : List Turn) → Does list → counted list ≤ cycles (instr_of cpu) → Claim list
     claim_of list doing most =
-        Turned.claim_all R image held rom start cpu older cells work calm rests is.free is.in_rom is.bytes is.direct list doing most
+        CyclesFind.claim_all R image held rom start cpu older cells work calm rests is.free is.in_rom is.bytes is.direct list doing most
 
     module _ (list : List Turn) (claim : Claim list) where
       abbrev k : Cpu
-      k = Turned.as_turned R image held rom start cpu older cells work calm rests is.free is.in_rom is.bytes is.direct list claim
+      k = CyclesFind.as_turned R image held rom start cpu older cells work calm rests is.free is.in_rom is.bytes is.direct list claim
 
       abbrev last : Cpu
       last = does (instr_of k) k
 
       abbrev Went : ℕ → Type 0
       Went n = Goes (instr_of k) k cells
-          (Turned.whole R image held rom start cpu older cells work calm rests is.free is.in_rom is.bytes is.direct list claim n)
+          (CyclesFind.whole R image held rom start cpu older cells work calm rests is.free is.in_rom is.bytes is.direct list claim n)
 
       went : (n : ℕ) → counted list + n ≡ cycles (instr_of cpu) → Went n
       went n count =
-          Turned.went R image held rom start cpu older cells work calm rests is.free is.in_rom is.bytes is.direct list claim n count
+          CyclesFind.went R image held rom start cpu older cells work calm rests is.free is.in_rom is.bytes is.direct list claim n count
 
       quiet_log : IsBeside (kind (instr_of k)) (idle k) → AreQuiet last.log
       quiet_log beside = written_quiet last.log (quiet_by (instr_of k) k (idle k) refl is.bytes.x is.bytes.y beside).none
@@ -138,7 +138,7 @@ module _ (R image : List ℕ) (held rom : ℕ → ℕ) (start : ℕ) (cpu : Cpu)
           let log_is : last.log ≡ g.news = g.log ∙ append-nil g.news in
           let all = subst AreQuiet (sym g.bus) (write_append IsQuiet g.news (fetched (instr_of k) k) (subst AreQuiet log_is quiet)
           (fetched_quiet IsQuiet (instr_of k) k)) in
-          let rest = Turned.answers n then_cells k in
+          let rest = CyclesFind.answers n then_cells k in
           let parts = made_both (cycled list) rest cells [] ∙ made_more then_cells rest (made cells (cycled list) []) in
           (write_both IsQuiet (made then_cells rest []) (made cells (cycled list) []) (subst AreQuiet parts all)).1
 
@@ -192,7 +192,7 @@ module _ (R image : List ℕ) (held rom : ℕ → ℕ) (start : ℕ) (cpu : Cpu)
     unread list some less doing =
         let claim = claim_of list doing (omega (arith, less)) in
         let n = cycles (instr_of cpu) - suc (counted list) in
-        Turned.amid_so R image held rom start cpu older cells work calm rests is.free is.in_rom is.bytes is.direct list claim n
+        CyclesFind.amid_so R image held rom start cpu older cells work calm rests is.free is.in_rom is.bytes is.direct list claim n
         (went list claim (suc n) (omega (arith, less))) some
 
     -- one of a 6502 that boots

@@ -11,7 +11,7 @@ use Rattle.dvg_game_board.proofs.SomeCabinet.{is_image, is_rom, zero_at}
 use Rattle.dvg_game_6502.proofs.SomeGame.{rom_small}
 use Rattle.dvg_game_cells.specs.Whole.{IsWhole, calm_after, powers, work_after}
 use Rattle.dvg_game_cells.specs.GoesOn.{SomeWhole, pins_for}
-use Rattle.dvg_game_cells.proofs.Lasting.{runs_go_on}
+use Rattle.dvg_game_cells.proofs.RunCanGoOn.{runs_go_on}
 
 abbrev at_next : Machine → (ℕ → ℕ) → Rattle.dvg_calls_cells.specs.Machine.Bus
 at_next machine work = pins_for zeros (rom nothing) machine work 0 1 0 0 0

@@ -11,12 +11,12 @@ use Rattle.dvg_cells_board.specs.Memory.{memwr}
 use Rattle.dvg_cells_board.specs.Clocks.{after}
 use Rattle.dvg_cells_cpu.specs.Cpu.{Cpu as Cells, at, write, dout, clock}
 use Rattle.dvg_cells_cpu.specs.Refines.{Cycle, pins_of, access, made, after_writes}
-use Rattle.dvg_cells_cpu.proofs.Fitting.{fits}
+use Rattle.dvg_cells_cpu.proofs.LawOfWidths.{fits}
 use Rattle.dvg_calls_cells.specs.Cycles.{Two, Turn, acts, idles, wait_bus, next, first_bus, second_bus, cycles_of, cycle_of}
 use Rattle.dvg_calls_cells.specs.Played.{AreGiven, at_rest, older_after}
 use Rattle.dvg_calls_cells.proofs.Fits.{AllFit, cycle_fits, wait_fits}
-use Rattle.dvg_calls_cells.proofs.Quiet.{made_more}
-use Rattle.dvg_game_cells.proofs.Doing.{works, wrote}
+use Rattle.dvg_calls_cells.proofs.BoardLeftAlone.{made_more}
+use Rattle.dvg_game_cells.proofs.CellsTask.{works, wrote}
 
 pub writes_both : (one two : List Access) (mem : ℕ → ℕ) → after_writes (one ++ two) mem ≡ after_writes one (after_writes two mem)
 writes_both [] two mem = refl

@@ -13,36 +13,36 @@ use Rattle.dvg_game_rules.specs.Machine.{IsLoaded, reset_vector, restarting, wor
 use Rattle.dvg_game_rules.specs.Checker.{accepts_game, boots, boot_most, stand_at}
 use Rattle.dvg_game_rules.specs.Alike.{idle}
 use Rattle.dvg_game_rules.proofs.Facts.{both_true}
-use Rattle.dvg_game_rules.proofs.Turning.{rom_inside}
+use Rattle.dvg_game_rules.proofs.OutsideTurns.{rom_inside}
 use Rattle.dvg_calls_6502.specs.Code.{code}
 use Rattle.dvg_calls_6502.specs.Single.{is_single}
-use Rattle.dvg_calls_6502.proofs.Few.{AreFew, few}
+use Rattle.dvg_calls_6502.proofs.FewAccesses.{AreFew, few}
 use Rattle.dvg_calls_cells.specs.Cycles.{Two, Turn, acts, IsQuiet, AreQuiet, cycles_of, cycle_of, first_bus}
 use Rattle.dvg_calls_cells.specs.Steps.{AreServed, instr_of}
 use Rattle.dvg_calls_cells.specs.Played.{at_rest, older_after, cells_after}
 use Rattle.dvg_calls_cells.proofs.Fits.{AllFit, served_of}
-use Rattle.dvg_calls_cells.proofs.Quiet.{made_more, write_append, write_both}
-use Rattle.dvg_calls_cells.proofs.Seen.{IsSeen, either_way, fetched_quiet, low_unseen, seen_one, unseen, unseen_quiet}
-use Rattle.dvg_calls_cells.proofs.Stepping.{head_is}
+use Rattle.dvg_calls_cells.proofs.BoardLeftAlone.{made_more, write_append, write_both}
+use Rattle.dvg_calls_cells.proofs.SeenAccesses.{IsSeen, either_way, fetched_quiet, low_unseen, seen_one, unseen, unseen_quiet}
+use Rattle.dvg_calls_cells.proofs.CallOnCells.{head_is}
 use Rattle.dvg_game_6502.proofs.Plays.{Brought}
 use Rattle.dvg_game_6502.proofs.Stages.{IsAccepted}
 use Rattle.dvg_game_board.proofs.OnBoard.{on_board}
 use Rattle.dvg_game_6502.specs.Play.{AreBytes, done, restarts}
 use Rattle.dvg_game_board.specs.Cabinet.{IsCabinet, AreMade, no_more, does as makes_step, touched, turns, written}
 use Rattle.dvg_game_board.proofs.Runs.{leaves_board, standing}
-use Rattle.dvg_game_board.proofs.Sharing.{Laws}
+use Rattle.dvg_game_board.proofs.SharedRam.{Laws}
 use Rattle.dvg_game_cells.specs.Keeps.{from_vector}
-use Rattle.dvg_game_cells.proofs.Answering.{tame_fetched, InRom}
-use Rattle.dvg_game_cells.proofs.Claims.{tame_writes}
-use Rattle.dvg_game_cells.proofs.Doing.{Doing, IsTime, calms, counted, works}
-use Rattle.dvg_game_cells.proofs.Ends.{Done, EndsInCycle, Half, settle, settle_boot, split_served}
+use Rattle.dvg_game_cells.proofs.InstructionReads.{tame_fetched, InRom}
+use Rattle.dvg_game_cells.proofs.ReadsBeforeWrites.{tame_writes}
+use Rattle.dvg_game_cells.proofs.CellsTask.{Doing, IsTime, calms, counted, works}
+use Rattle.dvg_game_cells.proofs.TaskEnds.{Done, EndsInCycle, Half, settle, settle_boot, split_served}
 use Rattle.dvg_game_cells.proofs.Jumps.{jump_is}
-use Rattle.dvg_game_cells.proofs.Known.{Known, known}
+use Rattle.dvg_game_cells.proofs.CabinetProcessor.{Known, known}
 use Rattle.dvg_game_cells.proofs.Memory.{writes_both}
 use Rattle.dvg_game_cells.proofs.Snoc.{counts, more_older, then_at}
-use Rattle.dvg_game_cells.proofs.Timing.{Timed, at_most, timely}
-use Rattle.dvg_game_cells.proofs.Turned
-use Rattle.dvg_game_cells.proofs.Turned.{made_both, more_cycles}
+use Rattle.dvg_game_cells.proofs.NmiDue.{Timed, at_most, timely}
+use Rattle.dvg_game_cells.proofs.CyclesFind
+use Rattle.dvg_game_cells.proofs.CyclesFind.{made_both, more_cycles}
 use Rattle.dvg_game_cells.proofs.Vectors.{doing_next}
 use Rattle.dvg_game_cells.proofs.Walks.{loud_half, quiet_half, quietly, second_half}
 
@@ -79,7 +79,7 @@ module _ (laws : Laws) (R image : List ℕ) (held rom : ℕ → ℕ) (start : �
     Does list = Doing R image held rom start cpu older cells work calm list
 
     abbrev Claim : List Turn → Type 0
-    Claim list = Turned.Claim R image held rom start cpu older cells work calm list
+    Claim list = CyclesFind.Claim R image held rom start cpu older cells work calm list
 
     abbrev cycled : List Turn → List Cycle
     cycled list = cycles_of (at_rest held older cells) list
@@ -88,7 +88,7 @@ module _ (laws : Laws) (R image : List ℕ) (held rom : ℕ → ℕ) (start : �
     it = known laws R image held rom start game brought cpu since older on
 
     claims : (list : List Turn) → Does list → counted list ≤ cycles (instr_of cpu) → Claim list
-    claims list doing most = Turned.claim_all R image held rom start cpu older cells work calm rests free it.in_rom it.bytes it.direct list doing most
+    claims list doing most = CyclesFind.claim_all R image held rom start cpu older cells work calm rests free it.in_rom it.bytes it.direct list doing most
 
     module _ (list : List Turn) (claim : Claim list) where
       abbrev turned : Cpu
@@ -98,10 +98,10 @@ module _ (laws : Laws) (R image : List ℕ) (held rom : ℕ → ℕ) (start : �
       new = done claim.flags turned
 
       abbrev as_turned : Cpu
-      as_turned = Turned.as_turned R image held rom start cpu older cells work calm rests free it.in_rom it.bytes it.direct list claim
+      as_turned = CyclesFind.as_turned R image held rom start cpu older cells work calm rests free it.in_rom it.bytes it.direct list claim
 
       abbrev whole : ℕ → List Cycle
-      whole n = Turned.whole R image held rom start cpu older cells work calm rests free it.in_rom it.bytes it.direct list claim n
+      whole n = CyclesFind.whole R image held rom start cpu older cells work calm rests free it.in_rom it.bytes it.direct list claim n
 
       on_turned : On (Some (turned, since)) older
       on_turned = turns claim.mem on claim.bytes claim.turned
@@ -110,7 +110,7 @@ module _ (laws : Laws) (R image : List ℕ) (held rom : ℕ → ℕ) (start : �
       Went n = Goes (instr_of as_turned) as_turned cells (whole n)
 
       went : (n : ℕ) → counted list + n ≡ cycles (instr_of cpu) → Went n
-      went n count = Turned.went R image held rom start cpu older cells work calm rests free it.in_rom it.bytes it.direct list claim n count
+      went n count = CyclesFind.went R image held rom start cpu older cells work calm rests free it.in_rom it.bytes it.direct list claim n count
 
       module _ (n : ℕ) (g : Went n) where
         log_is : new.log ≡ g.news
@@ -148,7 +148,7 @@ module _ (laws : Laws) (R image : List ℕ) (held rom : ℕ → ℕ) (start : �
                 (standing laws R image held rom start game brought on_turned).stage e in
                 inl (written_quiet g.news (ap written (sym log_is) ∙ none), touches false e ∙ none)
             by true e =
-                let same = Turned.same_instr R image held rom start cpu older cells work calm rests free it.in_rom it.bytes it.direct list claim in
+                let same = CyclesFind.same_instr R image held rom start cpu older cells work calm rests free it.in_rom it.bytes it.direct list claim in
                 of_code e g.news refl
                 (few as_turned claim.bytes (instr_of as_turned) (ap is_single same ∙ it.single e) g.news g.log)
 
@@ -169,7 +169,7 @@ module _ (laws : Laws) (R image : List ℕ) (held rom : ℕ → ℕ) (start : �
             let then_cells = cells_after held older cells list in
             let all = subst AreQuiet (sym g.bus) (write_append IsQuiet g.news (fetched (instr_of as_turned) as_turned) q
             (fetched_quiet IsQuiet (instr_of as_turned) as_turned)) in
-            let rest = Turned.answers n then_cells as_turned in
+            let rest = CyclesFind.answers n then_cells as_turned in
             let parts : made cells (whole n) [] ≡ made then_cells rest [] ++ made cells (cycled list) [] =
             made_both (cycled list) rest cells [] ∙ made_more then_cells rest (made cells (cycled list) []) in
             (write_both IsQuiet (made then_cells rest []) (made cells (cycled list) []) (subst AreQuiet parts all)).1
@@ -177,7 +177,7 @@ module _ (laws : Laws) (R image : List ℕ) (held rom : ℕ → ℕ) (start : �
       -- and where its access is still to come
       before_quiet : (n : ℕ) (g : Went (suc n)) → Loudly (suc n) g → AreQuiet (made cells (cycled list) [])
       before_quiet n g loud =
-          let next = Turned.made_next R image held rom start cpu older cells work calm rests free it.in_rom it.bytes it.direct list claim n in
+          let next = CyclesFind.made_next R image held rom start cpu older cells work calm rests free it.in_rom it.bytes it.direct list claim n in
           older_quiet next.0 _ loud.0 (made cells (cycled list) []) (fetched (instr_of as_turned) as_turned)
           (sym next.1 ∙ g.bus ∙ ap (λ l. l ++ fetched (instr_of as_turned) as_turned) loud.1)
           (fetched_quiet IsQuiet (instr_of as_turned) as_turned)
@@ -229,7 +229,7 @@ module _ (laws : Laws) (R image : List ℕ) (held rom : ℕ → ℕ) (start : �
     plays_amid list some less doing =
         let claim = claims list doing (omega (arith, less)) in
         let n = cycles (instr_of cpu) - suc (counted list) in
-        Turned.amid_so R image held rom start cpu older cells work calm rests free it.in_rom it.bytes it.direct list claim n
+        CyclesFind.amid_so R image held rom start cpu older cells work calm rests free it.in_rom it.bytes it.direct list claim n
         (went list claim (suc n) (omega (arith, less))) some
 
     pub plays_half : (list : List Turn) (two : Two) → counted list < cycles (instr_of cpu) → Does (list ++ acts two ∷ [])

@@ -6,7 +6,7 @@ use Rattle.dvg_cells_cpu.specs.Refines.{pins_of, ends}
 use Rattle.dvg_calls_cells.specs.Machine.{Machine}
 use Rattle.dvg_calls_cells.specs.Cycles.{Drive, Two, Turn, acts, idles, wait_bus, first_bus, second_bus, buses, cycles_of, cycle_of}
 use Rattle.dvg_calls_cells.specs.Played.{AreGiven, at_rest, older_after, cells_after}
-use Rattle.dvg_game_cells.proofs.Doing.{AreAsked, calm_in, calms, counted, works, wrote}
+use Rattle.dvg_game_cells.proofs.CellsTask.{AreAsked, calm_in, calms, counted, works, wrote}
 
 pub counts : (list : List Turn) (two : Two) → counted (list ++ acts two ∷ []) ≡ suc (counted list)
 counts [] two = refl

@@ -16,30 +16,30 @@ use Rattle.dvg_cells_cpu.proofs.Resting.{held as stands_so, in_state}
 use Rattle.dvg_game_rules.specs.Machine.{IsLoaded, is_outside, IsTurned, reset_vector, word_at}
 use Rattle.dvg_game_rules.specs.Checker.{accepts_game, boot_most, stand_at}
 use Rattle.dvg_game_rules.proofs.Facts.{both_true}
-use Rattle.dvg_game_rules.proofs.Turning.{low_inside, rom_inside}
+use Rattle.dvg_game_rules.proofs.OutsideTurns.{low_inside, rom_inside}
 use Rattle.dvg_calls_cells.specs.Cycles.{Two, Turn, acts, idles, wait_bus, IsQuiet, AreQuiet, next, first_bus, second_bus, cycles_of, cycle_of, between}
 use Rattle.dvg_calls_cells.specs.Played.{AreGiven, at_rest, older_after, cells_after}
 use Rattle.dvg_calls_cells.proofs.Fits.{AllFit, cycle_fits, wait_fits, first_is, served_of}
-use Rattle.dvg_calls_cells.proofs.Quiet.{made_more, write_both}
-use Rattle.dvg_calls_cells.proofs.Seen.{no_ram}
-use Rattle.dvg_calls_cells.proofs.Stepping.{on_board}
+use Rattle.dvg_calls_cells.proofs.BoardLeftAlone.{made_more, write_both}
+use Rattle.dvg_calls_cells.proofs.SeenAccesses.{no_ram}
+use Rattle.dvg_calls_cells.proofs.CallOnCells.{on_board}
 use Rattle.dvg_game_6502.proofs.Plays.{Brought}
 use Rattle.dvg_game_6502.proofs.Stages.{IsAccepted}
 use Rattle.dvg_game_board.proofs.OnBoard as bearing
 use Rattle.dvg_game_6502.specs.Play
 use Rattle.dvg_game_6502.specs.Play.{AreBytes, fresh}
 use Rattle.dvg_game_board.specs.Cabinet.{IsCabinet, nmi, turns}
-use Rattle.dvg_game_board.proofs.Sharing.{Laws}
+use Rattle.dvg_game_board.proofs.SharedRam.{Laws}
 use Rattle.dvg_game_cells.specs.Keeps.{from_vector}
-use Rattle.dvg_game_cells.proofs.Answering.{InRom}
-use Rattle.dvg_game_cells.proofs.Claims.{where_so}
-use Rattle.dvg_game_cells.proofs.Doing.{Asked, AreAsked, Doing, calm_in, calms, counted, works, wrote}
-use Rattle.dvg_game_cells.proofs.Ends.{Done, Half, settle, settle_boot, split_served, works_in}
-use Rattle.dvg_game_cells.proofs.Known.{Known, known}
+use Rattle.dvg_game_cells.proofs.InstructionReads.{InRom}
+use Rattle.dvg_game_cells.proofs.ReadsBeforeWrites.{where_so}
+use Rattle.dvg_game_cells.proofs.CellsTask.{Asked, AreAsked, Doing, calm_in, calms, counted, works, wrote}
+use Rattle.dvg_game_cells.proofs.TaskEnds.{Done, Half, settle, settle_boot, split_served, works_in}
+use Rattle.dvg_game_cells.proofs.CabinetProcessor.{Known, known}
 use Rattle.dvg_game_cells.proofs.Memory.{low_after, ram_after}
 use Rattle.dvg_game_cells.proofs.Snoc.{counts, then_at}
-use Rattle.dvg_game_cells.proofs.Timing.{Timed, Timely, timely}
-use Rattle.dvg_game_cells.proofs.Turned.{count_of, made_both, more_cycles, ram_inside}
+use Rattle.dvg_game_cells.proofs.NmiDue.{Timed, Timely, timely}
+use Rattle.dvg_game_cells.proofs.CyclesFind.{count_of, made_both, more_cycles, ram_inside}
 use Rattle.dvg_game_cells.proofs.Walks.{quiet_half, quietly}
 
 -- each of these reads is at the top of memory

@@ -12,9 +12,9 @@ use Rattle.dvg_cells_cpu.specs.Refines.{pins_of, access, made}
 use Rattle.dvg_calls_cells.specs.Cycles.{Two, Turn, acts, idles, wait_bus, first_bus, second_bus, next, cycles_of, cycle_of, IsQuiet, AreQuiet}
 use Rattle.dvg_calls_cells.specs.Steps.{AreServed}
 use Rattle.dvg_calls_cells.specs.Played.{at_rest, older_after}
-use Rattle.dvg_calls_cells.proofs.Quiet.{idle_write, write_first}
-use Rattle.dvg_calls_cells.proofs.Seen.{IsSeen}
-use Rattle.dvg_calls_cells.proofs.Stepping.{answered_there, on_board, one_of}
+use Rattle.dvg_calls_cells.proofs.BoardLeftAlone.{idle_write, write_first}
+use Rattle.dvg_calls_cells.proofs.SeenAccesses.{IsSeen}
+use Rattle.dvg_calls_cells.proofs.CallOnCells.{answered_there, on_board, one_of}
 use Rattle.dvg_game_6502.specs.Play.{done, restarts}
 use Rattle.dvg_game_board.specs.Cabinet.{IsCabinet, AreMade, no_more, one_more, waits, reads, does, touched}
 

@@ -11,7 +11,7 @@ use Rattle.dvg_cells_board.specs.Memory.{memwr}
 use Rattle.dvg_cells_motion.specs.Vectors as vectors
 use Rattle.dvg_cells_cpu.specs.Cpu.{Cpu as Cells, at, dout, write}
 use Rattle.dvg_cells_cpu.proofs.Bounds.{bit_in}
-use Rattle.dvg_cells_cpu.proofs.Fitting.{fits}
+use Rattle.dvg_cells_cpu.proofs.LawOfWidths.{fits}
 use Rattle.dvg_game_circuit.specs.Game.{Game, Bus, clock, drives_cpu, drives_vectors}
 use Rattle.dvg_game_circuit.specs.Circuit.{Held, IsBus, IsLoaded, after, board_clocks}
 use Rattle.dvg_game_circuit.specs.Around.{AreLatched, BoardGoesAround, GoesAround, banked, begins, byte_of, code_at}
@@ -20,12 +20,12 @@ use Rattle.dvg_game_circuit.proofs.Projection.{byte_of_input, setting_at}
 use Rattle.dvg_game_circuit.proofs.Projection as cells
 use Rattle.dvg_game_circuit.proofs.Bits.{and_both, bit_of, both_bit, mux_bit, none_is, same_test}
 use Rattle.dvg_game_circuit.proofs.Latching.{Fine, begins_is, last_on, latched_first, latched_on, writes_is}
-use Rattle.dvg_game_circuit.proofs.Ticking.{Counts, counts_first, counts_on, timed_now}
-use Rattle.dvg_game_circuit.proofs.Answering.{board_is, byte_is, code_is, input_is, place_is, setting_is}
-use Rattle.dvg_game_circuit.proofs.Reading.{code_place}
-use Rattle.dvg_game_circuit.proofs.Standing.{Stands, kept, stands}
-use Rattle.dvg_game_circuit.proofs.Standing as standing
-use Rattle.dvg_game_circuit.proofs.Writing.{place}
+use Rattle.dvg_game_circuit.proofs.TickCounters.{Counts, counts_first, counts_on, timed_now}
+use Rattle.dvg_game_circuit.proofs.CircuitReads.{board_is, byte_is, code_is, input_is, place_is, setting_is}
+use Rattle.dvg_game_circuit.proofs.OwnMemoryReads.{code_place}
+use Rattle.dvg_game_circuit.proofs.CircuitAsCells.{Stands, kept, stands}
+use Rattle.dvg_game_circuit.proofs.CircuitAsCells as standing
+use Rattle.dvg_game_circuit.proofs.WorkRam.{place}
 
 -- a place below 400 by its upper bits
 low_is : (a : ℕ) → a < 65536 → nat_eq (part 10 6 a) 0 ≡ nat_lt a 0x400

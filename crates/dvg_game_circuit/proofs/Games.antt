@@ -19,8 +19,8 @@ use Rattle.dvg_closed_cells.specs.Closed as closed
 use Rattle.dvg_game_circuit.specs.Game.{Bus}
 use Rattle.dvg_game_circuit.specs.Circuit.{CircuitKeeps, Held, IsBus, IsLoaded, after, board_clocks, machine_of, read}
 use Rattle.dvg_game_circuit.specs.Laws.{Asteroid, CanBeLoaded, CircuitsKeepByBytes, GamesLoad, KeepsOnCircuit, Rocks, with_shapes}
-use Rattle.dvg_game_circuit.proofs.Reading.{read_high, read_low}
-use Rattle.dvg_game_circuit.proofs.Standing.{vectors_after, vectors_driven, whole}
+use Rattle.dvg_game_circuit.proofs.OwnMemoryReads.{read_high, read_low}
+use Rattle.dvg_game_circuit.proofs.CircuitAsCells.{vectors_after, vectors_driven, whole}
 
 below : (bytes : List ℕ) → AllByRecursion (λ byte. byte < 256) bytes → (i : ℕ) → slice_index bytes i < 256
 below [] all i = omega arith

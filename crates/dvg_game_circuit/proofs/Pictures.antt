@@ -21,7 +21,7 @@ use Rattle.dvg_game_circuit.specs.Circuit.{Held, IsBus, IsLoaded, after, vector_
 use Rattle.dvg_game_circuit.specs.Around.{IsTimed, begins, takes, took}
 use Rattle.dvg_game_circuit.specs.Pictures.{AreCyclesInTicks, CircuitDraws, CircuitTakesPicture, later_clocks}
 use Rattle.dvg_game_circuit.proofs.Around.{around}
-use Rattle.dvg_game_circuit.proofs.Standing.{vectors_after, vectors_driven}
+use Rattle.dvg_game_circuit.proofs.CircuitAsCells.{vectors_after, vectors_driven}
 
 -- what is said of the vectors after their clocks, of any that are the same
 abbrev Drawn : (ℕ → ℕ) → List vectors.Bus → vectors.Vectors → Type 0

@@ -17,7 +17,7 @@ use dvg_closed_cells::{
 
 /// Each run of the circuit is one of the cells of a processor and a board with a memory that has
 /// its ROMs: it answers in time, and NMIs come far enough apart, whatever the pins are.
-#[tactic(auto, using(crate::proofs::Standing::whole))]
+#[tactic(auto, using(crate::proofs::CircuitAsCells::whole))]
 pub fn circuits_are_whole()
     ensures { CircuitsAreWhole }
 {}
@@ -56,7 +56,7 @@ pub fn games_load()
 }
 
 /// The pins of the circuit are those of its processor and its vectors.
-#[tactic(auto, using(crate::proofs::Shown::shows))]
+#[tactic(auto, using(crate::proofs::PinsOfParts::shows))]
 pub fn circuit_shows()
     ensures { ShowsParts }
 {}

@@ -11,17 +11,17 @@ use Rattle.dvg_game_rules.specs.Machine.{back_of, called, calling, driven, goes_
 use Rattle.dvg_game_rules.specs.Machine.{reset_vector, restarting, restarts, returned, step, blank_after}
 use Rattle.dvg_game_rules.specs.Checker.{Note, Notes, Sub, Nmi, accepts, accepts_game, enters, fine_by, first, implies, leads, noted, places, same_level}
 use Rattle.dvg_game_rules.specs.Safe.{IsSafeBy}
-use Rattle.dvg_game_rules.proofs.Calling.{leads_back, open_call}
+use Rattle.dvg_game_rules.proofs.CallsAndReturns.{leads_back, open_call}
 use Rattle.dvg_game_rules.proofs.Facts.{IsInside, both_true, placed, same, under, within}
-use Rattle.dvg_game_rules.proofs.Handling.{opcode_there, first_there, second_there}
-use Rattle.dvg_game_rules.proofs.Local.{ticked}
+use Rattle.dvg_game_rules.proofs.NmiStepsHold.{opcode_there, first_there, second_there}
+use Rattle.dvg_game_rules.proofs.LocalKinds.{ticked}
 use Rattle.dvg_game_rules.proofs.Memory.{either, left_stack}
-use Rattle.dvg_game_rules.proofs.Standing.{Good, Handles, Runs, low}
-use Rattle.dvg_game_rules.proofs.Stepping.{checked, vector}
-use Rattle.dvg_game_rules.proofs.Whole.{checked_is_safe, good_run}
+use Rattle.dvg_game_rules.proofs.RunInvariant.{Good, Handles, Runs, low}
+use Rattle.dvg_game_rules.proofs.SafeSteps.{checked, vector}
+use Rattle.dvg_game_rules.proofs.RunsAreSafe.{checked_is_safe, good_run}
 use Rattle.dvg_game_content.specs.Brings.{Ways, brings, brings_at, brought_to, fact, fact_by, flows, is_free, is_leap}
 use Rattle.dvg_game_content.specs.Brings.{next, passes_on, far}
-use Rattle.dvg_game_content.proofs.Advancing.{HoldsAt, holds_nothing}
+use Rattle.dvg_game_content.proofs.InstructionLearns.{HoldsAt, holds_nothing}
 
 -- a note is right where no instruction is come to from elsewhere
 module _ (ways : Ways) (rom : ℕ → ℕ) where

@@ -1,6 +1,6 @@
 mod Frames
-mod Advancing
+mod InstructionLearns
 mod Landing
-mod Told
+mod RegistersKnown
 mod Words
-pub mod Whole
+pub mod ContentFromBytes

@@ -15,7 +15,7 @@ use Rattle.dvg_frame.specs.Ops.{IsDraft, IsOp}
 use Rattle.dvg_frame.specs.Faults.{Accepts}
 use Rattle.dvg_calls_6502.specs.Build.{IsPut, calls_one}
 use Rattle.dvg_calls_6502.specs.Tables.{AreExpressible, HasTable, IsExpressible, table_of}
-use Rattle.dvg_calls_6502.proofs.Few.{high_plain}
+use Rattle.dvg_calls_6502.proofs.FewAccesses.{high_plain}
 use Rattle.dvg_game_rules.specs.Checker.{stand_at}
 use Rattle.dvg_game_rules.specs.Machine.{word_at}
 use Rattle.dvg_game_rules.proofs.Facts.{both_true}

@@ -11,8 +11,8 @@ use Rattle.dvg_game_rules.specs.Checker.{is_free, is_output}
 use Rattle.dvg_game_rules.specs.Safe.{MayWrite, IsSafeBy}
 use Rattle.dvg_game_rules.specs.Between.{is_drivers, LeavesAlone}
 use Rattle.dvg_game_rules.proofs.Memory.{output_place, other, either, between, own_apart as own_low}
-use Rattle.dvg_game_rules.proofs.Local.{ticked, free_not_own, operand_not_own}
-use Rattle.dvg_game_rules.proofs.Whole.{checked_is_safe}
+use Rattle.dvg_game_rules.proofs.LocalKinds.{ticked, free_not_own, operand_not_own}
+use Rattle.dvg_game_rules.proofs.RunsAreSafe.{checked_is_safe}
 
 -- the driver's bytes are neither on the stack nor free
 either_of : (b : ℕ) → is_drivers b ≡ true → (is_own b ≡ true) ⊎ ((0x2000 ≤ b) × ((b < 0x3200) ⊎ (0x4000 ≤ b)))

@@ -14,17 +14,17 @@ use Rattle.dvg_game_rules.specs.Machine.{nmi_vector, of_register, pushed, reset_
 use Rattle.dvg_game_rules.specs.Checker.{Notes, accepts_game, fine_by, interrupts, may_write, noted, of_reached, same_level, starts, Sub}
 use Rattle.dvg_game_rules.specs.Safe.{ComesBack, InCase, IsCalled, IsSafeBy}
 use Rattle.dvg_game_rules.specs.Alike.{AreAlike, IsOwn, idle}
-use Rattle.dvg_game_rules.proofs.Alike.{steps_alike}
-use Rattle.dvg_game_rules.proofs.Calling.{Enters, comes_so, entering}
+use Rattle.dvg_game_rules.proofs.StepsByKind.{steps_alike}
+use Rattle.dvg_game_rules.proofs.CallsAndReturns.{Enters, comes_so, entering}
 use Rattle.dvg_game_rules.proofs.Facts.{IsInside, both_true, placed}
-use Rattle.dvg_game_rules.proofs.Handling.{first_there, nmi_step, no_call, opcode_there, second_there, two_levels}
-use Rattle.dvg_game_rules.proofs.Local.{ticked}
+use Rattle.dvg_game_rules.proofs.NmiStepsHold.{first_there, nmi_step, no_call, opcode_there, second_there, two_levels}
+use Rattle.dvg_game_rules.proofs.LocalKinds.{ticked}
 use Rattle.dvg_game_rules.proofs.Memory.{IsAside, aside, may_apart, other, reaching}
 use Rattle.dvg_game_rules.proofs.Safety.{IsBeside, may_nmi, nmi_safe}
-use Rattle.dvg_game_rules.proofs.Standing.{Good, Handles, Runs, Stands}
-use Rattle.dvg_game_rules.proofs.Stepping.{checked}
-use Rattle.dvg_game_rules.proofs.Turning.{low_inside, rom_inside}
-use Rattle.dvg_game_rules.proofs.Whole.{good_run}
+use Rattle.dvg_game_rules.proofs.RunInvariant.{Good, Handles, Runs, Stands}
+use Rattle.dvg_game_rules.proofs.SafeSteps.{checked}
+use Rattle.dvg_game_rules.proofs.OutsideTurns.{low_inside, rom_inside}
+use Rattle.dvg_game_rules.proofs.RunsAreSafe.{good_run}
 
 -- registers and PC are the same, S and the stack stand this much higher in the one; and in the other this NMI came as many
 -- instructions ago

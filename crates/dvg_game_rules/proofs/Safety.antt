@@ -12,13 +12,13 @@ use Rattle.dvg_game_rules.specs.Checker.{Nmi, Note, Notes, noted, leads, begun, 
 use Rattle.dvg_game_rules.specs.Checker.{fine_by, enters, is_entry, is_free, is_strobe, may_write, of_reached}
 use Rattle.dvg_game_rules.specs.Safe.{MayWrite, IsCalled, ComesBack, InCase, IsSafeBy}
 use Rattle.dvg_game_rules.proofs.Facts.{IsInside, placed, implied, both_true, not_true, same}
-use Rattle.dvg_game_rules.proofs.Standing.{Below, Runs, Handles, low}
+use Rattle.dvg_game_rules.proofs.RunInvariant.{Below, Runs, Handles, low}
 use Rattle.dvg_game_rules.proofs.Memory.{either, reaching}
-use Rattle.dvg_game_rules.proofs.Calling.{leads_back, open_call, or_more as or_awake}
+use Rattle.dvg_game_rules.proofs.CallsAndReturns.{leads_back, open_call, or_more as or_awake}
 use Rattle.dvg_game_rules.proofs.Saved.{holds_less}
-use Rattle.dvg_game_rules.proofs.Stepping.{vector}
-use Rattle.dvg_game_rules.proofs.Handling.{two_levels, is_nmi, not_entered, first_there}
-use Rattle.dvg_game_rules.proofs.Handling.{second_there, nmi_low, nmi_word, no_call}
+use Rattle.dvg_game_rules.proofs.SafeSteps.{vector}
+use Rattle.dvg_game_rules.proofs.NmiStepsHold.{two_levels, is_nmi, not_entered, first_there}
+use Rattle.dvg_game_rules.proofs.NmiStepsHold.{second_there, nmi_low, nmi_word, no_call}
 
 -- what it asks of memory alone, wherever the stack is
 abbrev pub IsBeside : Kind → State → Type 0

@@ -15,8 +15,8 @@ use Rattle.dvg_game_rules.specs.Safe.{IsSafeBy, MayWrite}
 use Rattle.dvg_game_rules.specs.Alike.{IsOwn, after, idle, Starts, StartsUp}
 use Rattle.dvg_game_rules.proofs.Facts.{both_true, not_true, IsInside, inside}
 use Rattle.dvg_game_rules.proofs.Memory.{IsAside, aside, may_apart, other, reaching, either}
-use Rattle.dvg_game_rules.proofs.Local.{ticked}
-use Rattle.dvg_game_rules.proofs.Alike.{steps_alike}
+use Rattle.dvg_game_rules.proofs.LocalKinds.{ticked}
+use Rattle.dvg_game_rules.proofs.StepsByKind.{steps_alike}
 
 -- what a step of a kind that a reset may do first leaves
 record Goes (rom : ℕ → ℕ) (pc s : ℕ) (st : State) : Type 0 where

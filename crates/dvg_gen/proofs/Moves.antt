@@ -18,7 +18,7 @@ use Rattle.dvg_gen.specs.Run.{Visit, back_over, past_call, led, next, wanted, be
 use Rattle.dvg_gen.specs.Run.{Adds, first, one, two}
 use Rattle.dvg_gen.specs.Told.{Told, Fed, Newest, Leaves, new, starts, resets, meets_hole, takes}
 use Rattle.dvg_gen.proofs.Inside.{spelled_range}
-use Rattle.dvg_gen.proofs.Same.{leaves_same}
+use Rattle.dvg_gen.proofs.OneRun.{leaves_same}
 use Rattle.dvg_gen.proofs.Words.{not_first}
 
 -- what is seen of two lists of moves

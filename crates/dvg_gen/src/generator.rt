@@ -86,7 +86,7 @@ impl<A: Allocator> Model for Generator<A> {
 impl<A: Allocator + Copy> Generator<A> {
     /// Returns a new generator, which is halted and has no picture. Its strokes will be in memory
     /// of `alloc`.
-    #[tactic(auto, using(crate::proofs::Standing::stands_new))]
+    #[tactic(auto, using(crate::proofs::GeneratorAfterHistory::stands_new))]
     pub fn new(alloc: A) -> Generator<A>
         ensures stands { HasTaken result [] None }
         ensures halted { result.is_open ≡ false }
@@ -125,7 +125,7 @@ impl<A: Allocator + Copy> Generator<A> {
 
     /// Halts the generator. A run that was open is abandoned with its strokes and its low byte; the
     /// beam stays, and so does the picture of the newest run that came to a HALT.
-    #[tactic(auto, using(crate::proofs::Standing::stands_reset))]
+    #[tactic(auto, using(crate::proofs::GeneratorAfterHistory::stands_reset))]
     pub fn reset(&mut self)
         ensures stands { (history : List Told) (low : Option ℕ) → HasTaken self.old history low
             → HasTaken self.new (Reset ∷ history) None }

@@ -12,7 +12,7 @@ pub fn least_residue()
 
 /// A vector with an intensity of at least 1 draws one stroke, even of length zero. Nothing else
 /// draws.
-#[tactic(auto, using(crate::proofs::Drawn::seen_draws))]
+#[tactic(auto, using(crate::proofs::WhatDraws::seen_draws))]
 pub fn what_draws()
     ensures seen { SeenDraws }
     ensures unseen { UnseenDrawsNothing }
@@ -40,13 +40,13 @@ pub fn past_the_call()
 {}
 
 /// A history leaves exactly one run.
-#[tactic(auto, using(crate::proofs::Same::leaves_same, crate::proofs::Same::leaves_more))]
+#[tactic(auto, using(crate::proofs::OneRun::leaves_same, crate::proofs::OneRun::leaves_more))]
 pub fn one_run()
     ensures { OneRun }
 {}
 
 /// A memory that does not change has at most one run of a given number of words.
-#[tactic(auto, using(crate::proofs::Same::runs_same))]
+#[tactic(auto, using(crate::proofs::OneRun::runs_same))]
 pub fn one_run_of_memory()
     ensures { OneRunOfMemory }
 {}

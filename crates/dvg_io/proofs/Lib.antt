@@ -1,6 +1,6 @@
-pub mod Known
+pub mod KnownBytesChain
 pub mod Inputs
-pub mod Went
+pub mod WrittenSoFar
 pub mod Unfound
 pub mod Served
 pub mod StrokeLines

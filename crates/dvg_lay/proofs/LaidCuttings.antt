@@ -8,7 +8,7 @@ use Rattle.dvg_code.specs.Cutting.{Cuts, Cutting, Placed, ends, goes}
 use Rattle.dvg_code.specs.Ranges.{InRange}
 use Rattle.dvg_code.specs.Spelling.{canon}
 use Rattle.dvg_code.proofs.Cuttings.{same_cutting}
-use Rattle.dvg_code.proofs.Reading.{canon_spells}
+use Rattle.dvg_code.proofs.FieldsSpell.{canon_spells}
 use Rattle.dvg_mem.specs.declared.half.Half.{Half}
 use Rattle.dvg_frame.specs.declared.op.OpKind.{OpKind}
 use Rattle.dvg_frame.specs.declared.op.OpKind.TheVariants.{Draw, CallRom, JumpRom, Call, Jump, Return, Halt as Stop}

@@ -1,4 +1,4 @@
-mod Grew
+mod TextsGrow
 mod GivenRows
 mod LaidBytes
 mod LaidCuttings
@@ -9,7 +9,7 @@ mod ChecksSaid
 mod EndsDrawn
 mod FramesDrawn
 pub mod RamLaid
-mod Walked
+mod TimedRun
 mod PictureTimes
 mod DraftsRead
 mod RomRead

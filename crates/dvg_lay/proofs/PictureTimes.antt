@@ -13,7 +13,7 @@ use Rattle.dvg_mem.specs.Memory.{IsRom, fetched, rom_word}
 use Rattle.dvg_mem.proofs.Roms.{behind_ram, rom_some}
 use Rattle.dvg_gen.specs.Run.{Visit, Finished, Runs, begins, fate, fetches}
 use Rattle.dvg_gen.specs.Told.{nothing}
-use Rattle.dvg_gen.proofs.Same.{one_end as same_end}
+use Rattle.dvg_gen.proofs.OneRun.{one_end as same_end}
 use Rattle.dvg_frame.specs.declared.op.OpKind.{OpKind}
 use Rattle.dvg_frame.specs.Layout.{laid}
 use Rattle.dvg_frame.specs.Ops.{IsDraft}
@@ -22,7 +22,7 @@ use Rattle.dvg_frame.specs.Steps.{Closed}
 use Rattle.dvg_frame.proofs.Sizes.{closed_fits}
 use Rattle.dvg_log.specs.Held.{HoldsFrame}
 use Rattle.dvg_theorem.specs.Law.{AnyMemory, Finishes, HasFrame, IsDrawn}
-use Rattle.dvg_theorem.proofs.Least.{frame_memory, least_has}
+use Rattle.dvg_theorem.proofs.LeastMemory.{frame_memory, least_has}
 use Rattle.dvg_dump.specs.Ends.{Complete, drawn_by, halts}
 use Rattle.dvg_dump.specs.Laws.{OneEnd}
 use Rattle.dvg_lay.specs.declared.time.PictureTime.{PictureTime}

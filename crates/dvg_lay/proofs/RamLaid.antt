@@ -11,7 +11,7 @@ use Rattle.dvg_frame.specs.declared.op.OpKind.{OpKind}
 use Rattle.dvg_frame.specs.Bytes.{bytes}
 use Rattle.dvg_frame.specs.Layout.{laid}
 use Rattle.dvg_log.specs.Held.{HoldsFrame}
-use Rattle.dvg_theorem.proofs.Least.{lies_word}
+use Rattle.dvg_theorem.proofs.LeastMemory.{lies_word}
 
 -- the jump to the half is there, and so many bytes of the frame
 pub record IsLaid (ram : List ℕ) (half : Half) (F : List OpKind) (count : ℕ) : Type 0 where

@@ -11,8 +11,8 @@ use Rattle.dvg_print.specs.MomentVerdicts.{moment_verdict_text}
 use Rattle.dvg_io.specs.declared.fault.ToolFault.{ToolFault}
 use Rattle.dvg_io.specs.declared.fault.ToolFault.TheVariants.{Text, Reader, Writer, Memory}
 use Rattle.dvg_io.specs.Watching.{BeginsToWrite}
-use Rattle.dvg_io.proofs.Known.{Appends-trans}
-use Rattle.dvg_io.proofs.Went.{second_begun}
+use Rattle.dvg_io.proofs.KnownBytesChain.{Appends-trans}
+use Rattle.dvg_io.proofs.WrittenSoFar.{second_begun}
 use Rattle.dvg_logs.specs.AllTears.{AllTakes, AllTears, AreSaid, AreTears, EndsAll, IsTear, JudgesAll, TellsAs, of_all, texts_of}
 use Rattle.dvg_logs.specs.LogReading.{GoesOn, HasJudged, HasRead, StopsAt, number_of}
 use Rattle.dvg_logs.specs.LogTexts.{IsFoundAt, IsWhole}

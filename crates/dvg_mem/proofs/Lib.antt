@@ -1,5 +1,5 @@
 pub mod Map
 pub mod Roms
-pub mod Grown
+pub mod GrownRom
 pub mod Banks
-pub mod Filled
+pub mod OneByteThroughout

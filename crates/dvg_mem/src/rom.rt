@@ -115,7 +115,7 @@ impl<A: Allocator> Rom<A> {
     /// Returns the ROM of 4,096 bytes that has this one's words from 800 on, and D000, a return, at
     /// 400 to 7FF. This one must have 2,048 bytes. Memory is taken from `alloc`. The only error is
     /// `OutOfMemory`, where an allocation fails.
-    #[tactic(auto, using(crate::proofs::Grown::is_rom, crate::proofs::Grown::grown))]
+    #[tactic(auto, using(crate::proofs::GrownRom::is_rom, crate::proofs::GrownRom::grown))]
     pub fn grow(&self, alloc: A) -> Result<Rom<A>, MemFault>
         requires { first_word self.now ≡ 0x800 }
         ensures grown { IfOk result (λ rom. IsGrown self.now rom) }
@@ -129,7 +129,7 @@ impl<A: Allocator> Rom<A> {
     }
 
     // Returns the bytes of 1,024 returns, and then those of this ROM, in memory of `alloc`.
-    #[tactic(auto, using(crate::proofs::Grown::one_more, crate::proofs::Grown::no_return))]
+    #[tactic(auto, using(crate::proofs::GrownRom::one_more, crate::proofs::GrownRom::no_return))]
     fn grown_bytes(&self, alloc: A) -> Result<Vec<u8, A>, AllocError>
         ensures { IfOk result (λ bytes. ArePushedBack self.now bytes.items) }
     {

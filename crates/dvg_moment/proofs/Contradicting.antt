@@ -10,8 +10,8 @@ use Rattle.dvg_log.specs.Log.{Log, waiting}
 use Rattle.dvg_moment.specs.declared.judge.MomentJudge.{MomentJudge}
 use Rattle.dvg_moment.specs.Moment.{waits, word_reads, reads, told, WaitsAsAnother, Contradicts}
 use Rattle.dvg_moment.specs.Judging.{StandsAfter}
-use Rattle.dvg_moment.proofs.Standing.{low_waits}
-use Rattle.dvg_moment.proofs.Reading.{equal, low_reads, low_at, some_read, high_reads}
+use Rattle.dvg_moment.proofs.JudgeAfterLog.{low_waits}
+use Rattle.dvg_moment.proofs.LinesRead.{equal, low_reads, low_at, some_read, high_reads}
 
 -- another byte was told
 abbrev pub IsAnother : MomentJudge → (at byte : ℕ) → Type 0

@@ -13,8 +13,8 @@ use Rattle.dvg_gen.specs.declared.stroke.Stroke.{Stroke}
 use Rattle.dvg_gen.specs.Bytes.{Whole, met}
 use Rattle.dvg_gen.specs.Run.{wanted, fate, strokes, Adds, Runs, begins, fetches}
 use Rattle.dvg_gen.specs.Told.{Told, Fed, Newest, Leaves, starts, takes, Drew, reply}
-use Rattle.dvg_gen.proofs.Standing.{open_goes}
-use Rattle.dvg_gen.proofs.Same.{leaves_same}
+use Rattle.dvg_gen.proofs.GeneratorAfterHistory.{open_goes}
+use Rattle.dvg_gen.proofs.OneRun.{leaves_same}
 use Rattle.dvg_gen.proofs.Replies.{drew_finished, wants_open}
 use Rattle.dvg_driver.specs.declared.action.Action.TheVariants.{Wrote}
 use Rattle.dvg_log.specs.Events.{Happening}
@@ -25,11 +25,11 @@ use Rattle.dvg_log.specs.Log.{Line, ◌⟼◌, Log, Throughout, ram, waiting, lo
 use Rattle.dvg_log.specs.Legal.{IsWanted, IsFetch, Fits}
 use Rattle.dvg_theorem.specs.Law.{Finishes}
 use Rattle.dvg_theorem.proofs.Bytes.{byte, low_met, word_met, whole_met}
-use Rattle.dvg_theorem.proofs.Kept.{byte_other}
+use Rattle.dvg_theorem.proofs.DrawnHalfSpared.{byte_other}
 use Rattle.dvg_moment.specs.Moment.{stands, waits, Changes, reads, HasRead, HasChanged, StillStands, ReadsThen}
 use Rattle.dvg_moment.specs.Played.{IsPlayed, DrewItsMoment, DrawsTheMoment}
 use Rattle.dvg_moment.proofs.OfOneMoment.{more_parts}
-use Rattle.dvg_moment.proofs.Reading.{some_read, low_reads, high_reads}
+use Rattle.dvg_moment.proofs.LinesRead.{some_read, low_reads, high_reads}
 
 -- 2,048 bytes
 abbrev pub AreBytes : List ℕ → Type 0

@@ -19,10 +19,10 @@ use Rattle.dvg_log.specs.Legal.{Always, Fits, IsLegal}
 use Rattle.dvg_theorem.specs.Law.{Finishes}
 use Rattle.dvg_theorem.proofs.Bytes.{byte}
 use Rattle.dvg_theorem.proofs.Headline.{draws_published}
-use Rattle.dvg_theorem.proofs.Kept.{HasFlipped, kept, zero_jumps}
+use Rattle.dvg_theorem.proofs.DrawnHalfSpared.{HasFlipped, kept, zero_jumps}
 use Rattle.dvg_theorem.proofs.Later.{shows}
 use Rattle.dvg_theorem.proofs.Law.{undisturbed}
-use Rattle.dvg_theorem.proofs.Least.{lies_word}
+use Rattle.dvg_theorem.proofs.LeastMemory.{lies_word}
 use Rattle.dvg_theorem.proofs.Words.{words_are_whole}
 use Rattle.dvg_moment.specs.Moment.{stands}
 use Rattle.dvg_moment.specs.Played.{DrewAMoment}

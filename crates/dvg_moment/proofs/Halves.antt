@@ -18,11 +18,11 @@ use Rattle.dvg_log.specs.declared.entry.Entry.TheVariants.{Acted}
 use Rattle.dvg_log.specs.Log.{◌⟼◌, Log, history, open_run, life, free_half, before_flip}
 use Rattle.dvg_log.specs.Legal.{IsWanted, IsLegal}
 use Rattle.dvg_theorem.proofs.Bytes.{byte}
-use Rattle.dvg_theorem.proofs.Drawing.{LeadsTo, drawing, leads_same}
+use Rattle.dvg_theorem.proofs.DrawnHalf.{LeadsTo, drawing, leads_same}
 use Rattle.dvg_theorem.proofs.Headline.{never_torn}
-use Rattle.dvg_theorem.proofs.Kept.{KeptBy, HasFlipped, kept, same_place, first_at}
+use Rattle.dvg_theorem.proofs.DrawnHalfSpared.{KeptBy, HasFlipped, kept, same_place, first_at}
 use Rattle.dvg_theorem.proofs.Later.{memory_is, shows}
-use Rattle.dvg_theorem.proofs.Least.{frame_memory, least_once, fits, not_zero}
+use Rattle.dvg_theorem.proofs.LeastMemory.{frame_memory, least_once, fits, not_zero}
 use Rattle.dvg_theorem.proofs.Linked.{Cut, cut_same, wanting}
 use Rattle.dvg_theorem.proofs.ToCome.{IsWrite, is_write, to_half, to_zero, to_one}
 use Rattle.dvg_theorem.proofs.Words.{words_are_whole}

@@ -12,15 +12,15 @@ use Rattle.dvg_log.specs.Entries.{Shown}
 use Rattle.dvg_log.specs.declared.entry.Entry.TheVariants.{Acted, Started, Low, Fetched, Done, Broke}
 use Rattle.dvg_log.specs.Log.{◌⟼◌, Log, Throughout, history, waiting, open_run, before_flip, at_zero}
 use Rattle.dvg_log.specs.Legal.{Always, IsWanted, Fits, IsLegal}
-use Rattle.dvg_theorem.proofs.Drawing.{LeadsTo, leads_before, past_zero}
-use Rattle.dvg_theorem.proofs.Kept.{HasFlipped}
+use Rattle.dvg_theorem.proofs.DrawnHalf.{LeadsTo, leads_before, past_zero}
+use Rattle.dvg_theorem.proofs.DrawnHalfSpared.{HasFlipped}
 use Rattle.dvg_theorem.proofs.Later.{shows}
 use Rattle.dvg_theorem.proofs.Shows.{at_zero_fetched, at_zero_open}
 use Rattle.dvg_theorem.proofs.Words.{words_are_whole}
 use Rattle.dvg_moment.specs.Moment.{Known, stands, told, waits, Changes, reads, HasRead, HasChanged, StillStands, ReadsThen, IsMoment, OfOneMoment, IsOfOneMoment}
-use Rattle.dvg_moment.proofs.Told.{told_zero}
+use Rattle.dvg_moment.proofs.ByteZeroAfterFlip.{told_zero}
 use Rattle.dvg_moment.proofs.Halves.{wanted_there, wanted_first, has_flipped, zero_is, Writes, half_byte, zero_byte, one_byte, writes, written_apart}
-use Rattle.dvg_moment.proofs.Reading.{low_at, word_at}
+use Rattle.dvg_moment.proofs.LinesRead.{low_at, word_at}
 
 -- byte 000 is known to be 01 once there was a flip
 abbrev pub KnowsZero : List ℕ → List ℕ → Known → Type 0

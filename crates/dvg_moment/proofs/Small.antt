@@ -29,7 +29,7 @@ use Rattle.dvg_log.specs.Entries.{Shown}
 use Rattle.dvg_log.specs.declared.entry.Entry.TheVariants.{Offered, Refused, Busy, Asked, NothingPublished, Acted, Started, NoStrobe, Cleared}
 use Rattle.dvg_log.specs.Log.{◌⟼◌, Log, life, free_half}
 use Rattle.dvg_log.specs.Legal.{Always, IsLegal}
-use Rattle.dvg_theorem.proofs.Local.{at_size}
+use Rattle.dvg_theorem.proofs.DraftInMemory.{at_size}
 use Rattle.dvg_theorem.proofs.Writes.{written}
 use Rattle.dvg_moment.specs.Played.{IsPlayed}
 

@@ -7,7 +7,7 @@ use Rattle.dvg_log.specs.declared.entry.Entry.TheVariants.{Acted, Started, Fetch
 use Rattle.dvg_log.specs.Log.{Line, ◌⟼◌, Log, Throughout}
 use Rattle.dvg_moment.specs.Moment.{told, Contradicts, Changes, HasChanged, StillStands, ReadsThen, OfOneMoment}
 use Rattle.dvg_moment.specs.Judging.{IsTorn}
-use Rattle.dvg_moment.proofs.Reading.{some_read, word_at}
+use Rattle.dvg_moment.proofs.LinesRead.{some_read, word_at}
 
 abbrev pub begun : Log
 begun = (Fetch ⟼ Fetched 1 0x0101) ∷ (Strobe ⟼ Started) ∷ []

@@ -16,7 +16,7 @@ use Rattle.dvg_log.specs.Log.{Line, ◌⟼◌, Log, Throughout, open_run}
 use Rattle.dvg_moment.specs.Moment.{Known, stands, HasChanged, StillStands, IsMoment, OfOneMoment}
 use Rattle.dvg_moment.specs.Played.{IsPlayed, SomeRunIsTorn}
 use Rattle.dvg_moment.proofs.Latest.{moment_before, is_latest, past_on, past_torn}
-use Rattle.dvg_moment.proofs.Reading.{some_read, low_at, word_at}
+use Rattle.dvg_moment.proofs.LinesRead.{some_read, low_at, word_at}
 use Rattle.dvg_moment.proofs.Truth.{is_moment}
 
 abbrev zeros : List ℕ

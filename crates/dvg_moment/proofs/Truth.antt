@@ -16,7 +16,7 @@ use Rattle.dvg_log.specs.declared.entry.Entry.TheVariants.{Acted, Started, Low, 
 use Rattle.dvg_log.specs.Log.{◌⟼◌, Log, Throughout, ram, waiting, low_byte, meets, history}
 use Rattle.dvg_log.specs.Legal.{IsWanted}
 use Rattle.dvg_theorem.proofs.Bytes.{byte, low_met, word_met}
-use Rattle.dvg_theorem.proofs.Kept.{byte_other, byte_here}
+use Rattle.dvg_theorem.proofs.DrawnHalfSpared.{byte_other, byte_here}
 use Rattle.dvg_moment.specs.Moment.{stands, told, waits, word_reads, WaitsAsAnother, Contradicts, Changes, HasChanged, StillStands, ReadsThen, IsMoment}
 use Rattle.dvg_moment.specs.Played.{IsPlayed, DrewItsMoment, DrawsTheMoment, NeverContradicts, ErrsUntold}
 use Rattle.dvg_moment.proofs.DrawsTheMoment.{AreBytes, are_bytes, wanted_same, low_part, high_part, draws_the_moment}

@@ -197,7 +197,7 @@ impl MomentJudge {
     }
 
     /// Returns whether a run is open.
-    #[tactic(auto, using(crate::proofs::Standing::open_answer))]
+    #[tactic(auto, using(crate::proofs::JudgeAfterLog::open_answer))]
     pub fn is_open(&self) -> bool
         ensures { (log : Log) → StandsAfter self.now log → IsTrue result ↔ (open_run log ≢ None) }
     {
@@ -205,7 +205,7 @@ impl MomentJudge {
     }
 
     /// Returns whether a run is open that is mixed.
-    #[tactic(auto, using(crate::proofs::Standing::torn_answer))]
+    #[tactic(auto, using(crate::proofs::JudgeAfterLog::torn_answer))]
     pub fn is_torn(&self) -> bool
         ensures { (log : Log) → StandsAfter self.now log → IsTrue result ↔ IsTorn log }
     {
@@ -213,7 +213,7 @@ impl MomentJudge {
     }
 
     /// Takes a line that says that a strobe began a run.
-    #[tactic(auto, using(crate::proofs::Standing::started_stands))]
+    #[tactic(auto, using(crate::proofs::JudgeAfterLog::started_stands))]
     pub fn started(&mut self)
         ensures { (log : Log) → StandsAfter self.old log
             → StandsAfter self.new ((Strobe ⟼ Started) ∷ log) }
@@ -293,7 +293,7 @@ impl MomentJudge {
     }
 
     /// Takes a line that says nothing of memory or of a run.
-    #[tactic(auto, using(crate::proofs::Standing::passed_stands))]
+    #[tactic(auto, using(crate::proofs::JudgeAfterLog::passed_stands))]
     pub fn passed(&self)
         ensures { (log : Log) → StandsAfter self.now log
             → StandsAfter self.now ((Tick ⟼ Acted Idle) ∷ log) }
@@ -340,7 +340,7 @@ impl MomentJudge {
     }
 
     // Takes what the driver did.
-    #[tactic(auto, using(crate::proofs::Taking::action_stands))]
+    #[tactic(auto, using(crate::proofs::LinesByEntry::action_stands))]
     fn take_action(&mut self, action: Action)
         ensures { (log : Log) → StandsAfter self.old log
             → StandsAfter self.new ((Tick ⟼ Acted action) ∷ log) }

@@ -14,7 +14,7 @@ pub fn of_one_moment()
 
 /// In every legal log each run that reaches HALT has such a moment at which each word that it
 /// fetched stands in memory as it was read, a byte at a time.
-#[tactic(auto, using(crate::proofs::Stood::stood_then))]
+#[tactic(auto, using(crate::proofs::FetchedWordStays::stood_then))]
 pub fn stood_then()
     ensures { Always StoodThen }
 {}

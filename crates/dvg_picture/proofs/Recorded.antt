@@ -13,7 +13,7 @@ use Rattle.dvg_dump.specs.declared.ran.Ran.{Ran}
 use Rattle.dvg_dump.specs.Ends.{End, Complete, Broken, Endless}
 use Rattle.dvg_dump.specs.Traces.{trace, trace_if}
 use Rattle.dvg_dump.specs.Units.{Course, moves_ahead, moves_in, origin, recorded_moves, setting_out, units_if}
-use Rattle.dvg_dump.proofs.Moved.{moves_of_trace, units_more}
+use Rattle.dvg_dump.proofs.RecordedMoves.{moves_of_trace, units_more}
 use Rattle.dvg_job.specs.declared.form.PictureForm.{PictureForm}
 use Rattle.dvg_picture.specs.Texts.{moved_text, picture_text, ran_text, recorded_text, run_text, traces}
 

@@ -10,13 +10,13 @@ use Rattle.dvg_io.proofs.Inputs.{whole}
 use Rattle.dvg_dump.specs.declared.ran.Ran.{Ran}
 use Rattle.dvg_dump.specs.Ends.{End}
 use Rattle.dvg_dump.specs.Memory.{memory_of, parts_of}
-use Rattle.dvg_dump.proofs.Drawing.{strokes_of_trace}
+use Rattle.dvg_dump.proofs.OneStroke.{strokes_of_trace}
 use Rattle.dvg_picture.specs.declared.svg.DumpPicture.{DumpPicture}
 use Rattle.dvg_picture.specs.declared.undrawn.Undrawn.{Undrawn}
 use Rattle.dvg_picture.specs.Pictures.{HasDumpFault, IsDumpFault, IsRunOf}
 use Rattle.dvg_picture.specs.Svgs.{DrawsSvg, IsDrawn, run_svg, strokes_of}
 use Rattle.dvg_picture.specs.Undrawn.{undrawn_by}
-use Rattle.dvg_picture.proofs.Shown.{faulted, short}
+use Rattle.dvg_picture.proofs.PictureOfInput.{faulted, short}
 use Rattle.dvg_dump.specs.declared.dump.TheConstants.{LARGE_DUMP_BYTES}
 
 -- what a run that is recorded draws

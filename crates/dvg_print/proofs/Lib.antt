@@ -1,5 +1,5 @@
 mod Spaced
-mod Joined
+mod GrownLine
 mod Counting
 mod PutDigits
 pub mod StrokeTexts

@@ -22,12 +22,12 @@ use Rattle.dvg_log.specs.Legal.{IsLegal}
 use Rattle.dvg_theorem.proofs.Headline.{draws_published}
 use Rattle.dvg_theorem.proofs.Rows.{first_picture}
 use Rattle.dvg_progress.specs.Progress.{Without, fetched_since, DrawsOnce}
-use Rattle.dvg_progress.proofs.Drawn.{drawn_in_time}
-use Rattle.dvg_progress.proofs.Halting.{halts_in_time}
-use Rattle.dvg_progress.proofs.Sending.{legal_before, sent_in_time}
-use Rattle.dvg_progress.proofs.Together.{shown_in_time}
-use Rattle.dvg_progress.proofs.Unstuck.{never_stuck}
-use Rattle.dvg_progress.proofs.Writing.{published_in_time}
+use Rattle.dvg_progress.proofs.FinishedOnce.{drawn_in_time}
+use Rattle.dvg_progress.proofs.FetchesSoFar.{halts_in_time}
+use Rattle.dvg_progress.proofs.StrobeAfterFlip.{legal_before, sent_in_time}
+use Rattle.dvg_progress.proofs.WayOfFrame.{shown_in_time}
+use Rattle.dvg_progress.proofs.DrawnFromEveryLog.{never_stuck}
+use Rattle.dvg_progress.proofs.WritesUntilFlip.{published_in_time}
 
 abbrev pub zeros : List ℕ
 zeros = replicate 2048 0

@@ -12,7 +12,7 @@ use Rattle.dvg_log.specs.Entries.{Shown}
 use Rattle.dvg_log.specs.declared.entry.Entry.TheVariants.{Offered, Refused, Busy, Asked, NothingPublished, Acted, Started, NoStrobe, Low, Fetched, Done, Broke, Still, Cleared}
 use Rattle.dvg_log.specs.Log.{◌⟼◌, Log, Throughout, open_run, life, strobed, offered, before_flip}
 use Rattle.dvg_log.specs.Legal.{IsLegal}
-use Rattle.dvg_theorem.proofs.Kept.{same_place}
+use Rattle.dvg_theorem.proofs.DrawnHalfSpared.{same_place}
 use Rattle.dvg_progress.specs.Progress.{Without, ticks}
 
 -- neither the processor nor the whole system is reset

@@ -27,7 +27,7 @@ use Rattle.dvg_log.specs.declared.entry.Entry.TheVariants.{Offered, Started, Low
 use Rattle.dvg_log.specs.Log.{◌⟼◌, Log, life, open_run}
 use Rattle.dvg_log.specs.Legal.{IsLegal}
 use Rattle.dvg_progress.specs.Progress.{DrawsOnce}
-use Rattle.dvg_progress.proofs.Drawn.{drawn_in_time}
+use Rattle.dvg_progress.proofs.FinishedOnce.{drawn_in_time}
 use Rattle.dvg_progress.proofs.FirstPicture.{zeros, frame, did, did_more, all_writes, writes, sending, sends, begun_legal, fetched, ticks_apart, waits_apart, fetches_apart}
 use Rattle.dvg_progress.proofs.Needed.{stood, stands_still, stood_apart, joined, more, last, flipped}
 use Rattle.dvg_progress.proofs.NeededToShow.{IsWriting, IsSending, IsDrawing}

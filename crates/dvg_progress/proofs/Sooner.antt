@@ -16,10 +16,10 @@ use Rattle.dvg_log.specs.Legal.{IsLegal}
 use Rattle.dvg_progress.specs.Progress.{Without, ticks, fetched_since, DrawsOnce}
 use Rattle.dvg_progress.proofs.Lives.{LivesOn, lives_on, runs_on}
 use Rattle.dvg_progress.proofs.Newest.{Newest, newest_step, newest_on, none_stays}
-use Rattle.dvg_progress.proofs.Ready.{Ready, sent, strobed_stays, ready_tick, ready_plain, is_sent}
-use Rattle.dvg_progress.proofs.Sending.{legal_before}
-use Rattle.dvg_progress.proofs.Together.{lives_all, frames_newer, frames_older, starts, started_not, time_low, reached, draws}
-use Rattle.dvg_progress.proofs.Writing.{start, time_is}
+use Rattle.dvg_progress.proofs.StrobeByTwoTicks.{Ready, sent, strobed_stays, ready_tick, ready_plain, is_sent}
+use Rattle.dvg_progress.proofs.StrobeAfterFlip.{legal_before}
+use Rattle.dvg_progress.proofs.WayOfFrame.{lives_all, frames_newer, frames_older, starts, started_not, time_low, reached, draws}
+use Rattle.dvg_progress.proofs.WritesUntilFlip.{start, time_is}
 
 -- F alone is accepted; 2W + 2 ticks, and 2 more; a strobe; 2n fetches: F is drawn
 abbrev pub ShownSooner : Type 0

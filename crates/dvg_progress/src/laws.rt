@@ -28,7 +28,7 @@ pub fn halts_in_time()
 /// the generator or of the whole system: once no run is open, there was exactly one `done`. It is
 /// the run's fetch number `2n`, and drew the picture, of `n` words, of the frame that was newest
 /// published when the run fetched word zero.
-#[tactic(auto, using(crate::proofs::Drawn::drawn_in_time))]
+#[tactic(auto, using(crate::proofs::FinishedOnce::drawn_in_time))]
 pub fn drawn_in_time()
     ensures { DrawnInTime }
 {}

@@ -5,7 +5,7 @@ use Rattle.std.proofs.lemmas.List.Elements.{All-append}
 use Rattle.std.proofs.lemmas.List.{length-append}
 use Rattle.dvg_code.specs.Words.{word_in}
 use Rattle.dvg_mem.specs.Grown.{AreReturns}
-use Rattle.dvg_mem.proofs.Grown.{no_return, one_more, word_before, word_behind}
+use Rattle.dvg_mem.proofs.GrownRom.{no_return, one_more, word_before, word_behind}
 
 -- some returns, and more of them
 pub more_returns : (xs ys : List ℕ) (m n : ℕ) → AreReturns xs m → AreReturns ys n → AreReturns (xs ++ ys) (m + n)

@@ -8,7 +8,7 @@ use Rattle.std.proofs.lemmas.List.Elements.{All-append}
 use Rattle.std.specs.List.{AllZip}
 use Rattle.dvg_code.specs.Words.{IsWord, word_in}
 use Rattle.dvg_mem.specs.Memory.{first_word}
-use Rattle.dvg_mem.proofs.Grown.{word_before, word_behind}
+use Rattle.dvg_mem.proofs.GrownRom.{word_before, word_behind}
 use Rattle.dvg_mem.proofs.Roms.{rom_there}
 use Rattle.dvg_read.specs.RomTexts.{IsRomLine, IsRomOf, RomLine, first_stated, mapped, unmapped, word_after}
 use Rattle.dvg_read.specs.Texts.{IsHex}

@@ -4,7 +4,7 @@ use Rattle.std.proofs.lemmas.List.{drop_more, length-map}
 use Rattle.dvg_gen.specs.declared.stroke.Stroke.{Stroke}
 use Rattle.dvg_io.specs.declared.watched.Watched.{Watched}
 use Rattle.dvg_io.specs.Watching.{one_more}
-use Rattle.dvg_io.proofs.Went.{BrokeOff, Wrote, both, second_begun}
+use Rattle.dvg_io.proofs.WrittenSoFar.{BrokeOff, Wrote, both, second_begun}
 use Rattle.dvg_svg.specs.Svg.{group, groups, pictures_text, strokes_of}
 
 -- the next item is that at this index

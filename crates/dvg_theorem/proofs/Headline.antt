@@ -6,10 +6,10 @@ use Rattle.dvg_log.specs.Log.{◌⟼◌, Log, Throughout, ram, open_run, has_fet
 use Rattle.dvg_log.specs.Legal.{Always, IsLegal}
 use Rattle.dvg_theorem.specs.Fetches.{WithinBound}
 use Rattle.dvg_log.specs.Headline.{SparesDrawn, NoFault, DrewPublished, IsNoOlder, KeepsTime, DrewHeld, KeepsHeadline, DrawsAHalf}
-use Rattle.dvg_theorem.proofs.Drawing.{drawing}
-use Rattle.dvg_theorem.proofs.Kept.{kept}
+use Rattle.dvg_theorem.proofs.DrawnHalf.{drawing}
+use Rattle.dvg_theorem.proofs.DrawnHalfSpared.{kept}
 use Rattle.dvg_theorem.proofs.Later.{IsRight, shows}
-use Rattle.dvg_theorem.proofs.Least.{lies_word}
+use Rattle.dvg_theorem.proofs.LeastMemory.{lies_word}
 use Rattle.dvg_theorem.proofs.Untouched.{draws_held}
 use Rattle.dvg_theorem.proofs.Words.{words_are_whole}
 use Rattle.dvg_theorem.proofs.Paced.{KeepsPace}

@@ -4,7 +4,7 @@ use Rattle.std.proofs.lemmas.Bool.{cases_lt}
 use Rattle.dvg_gen.specs.declared.beam.Beam.{Beam}
 use Rattle.dvg_gen.specs.declared.stroke.Stroke.{Stroke}
 use Rattle.dvg_gen.specs.Run.{Visit, Goes, Finished, fate, strokes, Runs}
-use Rattle.dvg_gen.proofs.Same.{runs_same, shorter}
+use Rattle.dvg_gen.proofs.OneRun.{runs_same, shorter}
 use Rattle.dvg_theorem.specs.Law.{Finishes, EndsInTime}
 use Rattle.dvg_theorem.proofs.Law.{any_memory}
 

@@ -29,9 +29,9 @@ use Rattle.dvg_log.specs.Headline.{IsShown, IsNoLater, NoFault, DrewPublished, I
 use Rattle.dvg_theorem.specs.Fetches.{IsInMemory}
 use Rattle.dvg_theorem.specs.Law.{IsDrawn}
 use Rattle.dvg_driver.proofs.Places.{whole_rests, life_place, place_before}
-use Rattle.dvg_theorem.proofs.Drawing.{LeadsTo, later, jump_there}
-use Rattle.dvg_theorem.proofs.Kept.{sized, KeptBy, kept, same_place, zero_jumps}
-use Rattle.dvg_theorem.proofs.Least.{Checked, fits, frame_memory, least_draws, least_once, goes_in_time, finished_in_time, finished_picture, Lies, agrees}
+use Rattle.dvg_theorem.proofs.DrawnHalf.{LeadsTo, later, jump_there}
+use Rattle.dvg_theorem.proofs.DrawnHalfSpared.{sized, KeptBy, kept, same_place, zero_jumps}
+use Rattle.dvg_theorem.proofs.LeastMemory.{Checked, fits, frame_memory, least_draws, least_once, goes_in_time, finished_in_time, finished_picture, Lies, agrees}
 use Rattle.dvg_theorem.proofs.Paced.{KeepsPace}
 use Rattle.dvg_theorem.proofs.Linked.{Cut, none, word, cut_same, wanting, fetching, added}
 use Rattle.dvg_theorem.proofs.Bytes.{same_Whole, low_met, word_met, byte}

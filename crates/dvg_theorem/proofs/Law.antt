@@ -34,7 +34,7 @@ use Rattle.dvg_theorem.proofs.Machine.{ReadsAt, reads1, reads2, Whole, none, mor
 use Rattle.dvg_theorem.proofs.Ends.{Ends, ends, steps, quiet, IsQuiet, moves_is, finish, ends_of}
 use Rattle.dvg_theorem.proofs.Control.{at_addresses, Faithful, Result, halted, returned, follows, traces, depth}
 use Rattle.dvg_mem.proofs.Roms.{behind_ram, rom_some}
-use Rattle.dvg_theorem.proofs.Local.{addr, faithful, start_reads, behind}
+use Rattle.dvg_theorem.proofs.DraftInMemory.{addr, faithful, start_reads, behind}
 
 -- each address on the stack is that of a place which is reached at its depth
 abbrev StackOk : List OpKind → List ℕ → (Place → ℕ) → List ℕ → Type 0

@@ -4,8 +4,8 @@ use Rattle.std.specs.Prelude.{is_some, option_map}
 use Rattle.std.proofs.lemmas.Option.{none-some, same_Some}
 use Rattle.dvg_gen.specs.Run.{Visit, wanted, Goes, fate, strokes, Adds}
 use Rattle.dvg_gen.specs.Told.{Told, Fed, Newest, goes_on, grown, Leaves, new, starts, resets, takes, Reply, More, Drew, Fails, reply, wants}
-use Rattle.dvg_gen.proofs.Standing.{open_goes}
-use Rattle.dvg_gen.proofs.Same.{adds_same, leaves_same}
+use Rattle.dvg_gen.proofs.GeneratorAfterHistory.{open_goes}
+use Rattle.dvg_gen.proofs.OneRun.{adds_same, leaves_same}
 use Rattle.dvg_gen.proofs.Replies.{more_goes, drew_finished, fails_shut, wants_open}
 use Rattle.dvg_log.specs.declared.event.Event.TheVariants.{Fetch, ResetGen, ResetAll}
 use Rattle.dvg_log.specs.declared.entry.Entry.TheVariants.{Started, Fetched, Done, Broke}

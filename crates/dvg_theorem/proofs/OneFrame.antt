@@ -20,9 +20,9 @@ use Rattle.dvg_log.specs.Log.{◌⟼◌, Log, ram, history, open_run}
 use Rattle.dvg_log.specs.Legal.{Always, IsWanted, Fits, IsLegal}
 use Rattle.dvg_log.specs.Headline.{IsShown}
 use Rattle.dvg_theorem.specs.Fetches.{IsInMemory, FromLayout, ReadsOneFrame, DrewInRange}
-use Rattle.dvg_theorem.proofs.Drawing.{LeadsTo, drawn_leads, leads_none, leads_same}
+use Rattle.dvg_theorem.proofs.DrawnHalf.{LeadsTo, drawn_leads, leads_none, leads_same}
 use Rattle.dvg_theorem.proofs.Later.{memory_is, shows}
-use Rattle.dvg_theorem.proofs.Least.{frame_memory, least_once, not_zero}
+use Rattle.dvg_theorem.proofs.LeastMemory.{frame_memory, least_once, not_zero}
 use Rattle.dvg_theorem.proofs.Linked.{Cut, cut_same, wanting}
 use Rattle.dvg_theorem.proofs.Words.{words_are_whole}
 

@@ -5,7 +5,7 @@ use Rattle.std.proofs.lemmas.Option.{same_Some}
 use Rattle.dvg_gen.specs.declared.stroke.Stroke.{Stroke}
 use Rattle.dvg_gen.specs.declared.taken.GenFault.{GenFault}
 use Rattle.dvg_gen.specs.Told.{Told, Fed, Leaves, Reply, More, Drew, Fails, reply, wants}
-use Rattle.dvg_gen.proofs.Same.{leaves_same}
+use Rattle.dvg_gen.proofs.OneRun.{leaves_same}
 use Rattle.dvg_frame.proofs.OneFault.{one_fault, accepted_stays}
 use Rattle.dvg_driver.specs.declared.action.Action.{Action}
 use Rattle.dvg_driver.specs.Script.{Did, IsLife}

@@ -23,9 +23,9 @@ use Rattle.dvg_log.specs.Log.{Line, ◌⟼◌, Log, Throughout, ram, open_run, f
 use Rattle.dvg_theorem.proofs.Bytes.{byte}
 use Rattle.dvg_log.specs.Headline.{IsShown, IsNoLater}
 use Rattle.dvg_driver.proofs.Places.{whole_rests, place_before}
-use Rattle.dvg_theorem.proofs.Drawing.{LeadsTo, not_both, past_zero, in_half, half_high}
-use Rattle.dvg_theorem.proofs.Kept.{byte_other, byte_here, not_equal, KeptBy, HasFlipped}
-use Rattle.dvg_theorem.proofs.Least.{Checked, fits, frame_memory, Lies}
+use Rattle.dvg_theorem.proofs.DrawnHalf.{LeadsTo, not_both, past_zero, in_half, half_high}
+use Rattle.dvg_theorem.proofs.DrawnHalfSpared.{byte_other, byte_here, not_equal, KeptBy, HasFlipped}
+use Rattle.dvg_theorem.proofs.LeastMemory.{Checked, fits, frame_memory, Lies}
 use Rattle.dvg_theorem.proofs.Linked.{Cut}
 use Rattle.dvg_theorem.proofs.ToCome.{IsWrite, to_half, to_zero, to_one}
 use Rattle.dvg_theorem.proofs.Writes.{write_byte, write_late, written_at}

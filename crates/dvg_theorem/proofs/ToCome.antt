@@ -10,7 +10,7 @@ use Rattle.dvg_frame.proofs.Bytes.{bytes-length}
 use Rattle.dvg_frame.proofs.Sizes.{closed_fits}
 use Rattle.dvg_driver.specs.Script.{word_zero, frame_writes}
 use Rattle.dvg_driver.specs.Place.{Place, Waiting, Writing, with_left, after_write}
-use Rattle.dvg_theorem.proofs.Drawing.{in_half}
+use Rattle.dvg_theorem.proofs.DrawnHalf.{in_half}
 use Rattle.dvg_theorem.proofs.Writes.{written}
 
 -- into this half, with z in byte 000 now: bytes of the half, then word zero, so that byte 000 holds 1 at the flip

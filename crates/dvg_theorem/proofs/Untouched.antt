@@ -6,8 +6,8 @@ use Rattle.dvg_mem.specs.Memory.{fetched, IsRom}
 use Rattle.dvg_gen.specs.Run.{wanted, fate, strokes, Runs, begins, fetches}
 use Rattle.dvg_gen.specs.Told.{Newest, Leaves, starts, takes, More, Drew, reply}
 use Rattle.dvg_gen.proofs.Replies.{drew_finished}
-use Rattle.dvg_gen.proofs.Same.{leaves_same}
-use Rattle.dvg_gen.proofs.Standing.{open_goes}
+use Rattle.dvg_gen.proofs.OneRun.{leaves_same}
+use Rattle.dvg_gen.proofs.GeneratorAfterHistory.{open_goes}
 use Rattle.dvg_frame.specs.Picture.{IsPicture}
 use Rattle.dvg_driver.specs.declared.action.Action.TheVariants.{Wrote}
 use Rattle.dvg_log.specs.Events.{Happening}
@@ -20,7 +20,7 @@ use Rattle.dvg_theorem.specs.Fetches.{IsInMemory}
 use Rattle.dvg_theorem.proofs.Words.{words_are_whole}
 use Rattle.dvg_log.specs.Headline.{IsUntouched, DrewHeld}
 use Rattle.dvg_theorem.proofs.Law.{undisturbed}
-use Rattle.dvg_theorem.proofs.Least.{finished_picture}
+use Rattle.dvg_theorem.proofs.LeastMemory.{finished_picture}
 use Rattle.dvg_theorem.proofs.Linked.{added, fetching}
 
 -- the ROM of a legal log

@@ -16,9 +16,9 @@ use Rattle.dvg_log.specs.Legal.{Fits, IsLegal}
 use Rattle.dvg_theorem.specs.Fetches.{WithinBound}
 use Rattle.dvg_log.specs.Headline.{IsShown, EndsAt, KeepsTime}
 use Rattle.dvg_theorem.proofs.Paced.{KeepsPace}
-use Rattle.dvg_theorem.proofs.Kept.{KeptBy, HasFlipped, kept}
+use Rattle.dvg_theorem.proofs.DrawnHalfSpared.{KeptBy, HasFlipped, kept}
 use Rattle.dvg_theorem.proofs.Later.{shows}
-use Rattle.dvg_theorem.proofs.Least.{Checked}
+use Rattle.dvg_theorem.proofs.LeastMemory.{Checked}
 use Rattle.dvg_theorem.proofs.Shows.{Shows, at_zero_none, at_zero_open}
 use Rattle.dvg_theorem.proofs.Words.{words_are_whole}
 

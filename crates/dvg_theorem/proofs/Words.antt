@@ -15,10 +15,10 @@ use Rattle.dvg_log.specs.Log.{◌⟼◌, Log, Throughout, ram, waiting, low_byte
 use Rattle.dvg_log.specs.Legal.{Always, IsWanted, Fits, IsLegal}
 use Rattle.dvg_theorem.specs.Fetches.{IsInMemory, IsPaired, KeepsNext}
 use Rattle.dvg_theorem.proofs.Bytes.{low_met, word_met, whole_met, low_part, hole_met, byte, byte_of}
-use Rattle.dvg_theorem.proofs.Drawing.{leads_same}
-use Rattle.dvg_theorem.proofs.Kept.{kept, first_at}
+use Rattle.dvg_theorem.proofs.DrawnHalf.{leads_same}
+use Rattle.dvg_theorem.proofs.DrawnHalfSpared.{kept, first_at}
 use Rattle.dvg_theorem.proofs.Later.{shows, memory_is}
-use Rattle.dvg_theorem.proofs.Least.{frame_memory}
+use Rattle.dvg_theorem.proofs.LeastMemory.{frame_memory}
 use Rattle.dvg_theorem.proofs.Linked.{Cut, cut_same, same_wanted, wanting}
 use Rattle.dvg_theorem.proofs.Shows.{at_zero_fetched}
 

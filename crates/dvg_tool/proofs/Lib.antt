@@ -1,8 +1,8 @@
 pub mod Progress
-pub mod Whole
+pub mod PrefixDecides
 pub mod RomLines
-pub mod Shown
-pub mod Played
+pub mod EntryByEntry
+pub mod ZerosAreImage
 pub mod TracesPlayed
 pub mod DrawnPlayed
 pub mod Reported

@@ -16,7 +16,7 @@ use Rattle.dvg_code.proofs.Listings.{goes_on, only_rest}
 use Rattle.dvg_print.specs.Lines.{line_text}
 use Rattle.dvg_tool.specs.Lists.{address_from, line_at, line_of, list_text}
 use Rattle.dvg_io.specs.Watching.{BeginsToWrite}
-use Rattle.dvg_io.proofs.Known.{Appends-nil, Appends-trans}
+use Rattle.dvg_io.proofs.KnownBytesChain.{Appends-nil, Appends-trans}
 
 -- the words that are left stand at this place of all words
 pub record Stands (words left : List ℕ) (place : ℕ) : Type 0 where

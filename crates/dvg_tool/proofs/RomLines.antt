@@ -9,7 +9,7 @@ use Rattle.dvg_print.specs.Lines.{map_text, rom_line, rom_lines, rom_text}
 use Rattle.dvg_tool.specs.Roms.{HasRomSize, words_text}
 use Rattle.dvg_io.specs.Watching.{BeginsToWrite, Went}
 use Rattle.dvg_io.proofs.Inputs.{length-words_of}
-use Rattle.dvg_io.proofs.Went.{all_of_it, nothing, piece_begun, piece_more}
+use Rattle.dvg_io.proofs.WrittenSoFar.{all_of_it, nothing, piece_begun, piece_more}
 
 -- the text of words by how many they are
 pub small_words : (words : List ℕ) → length words ≡ 1024 → [] ++ rom_lines 0x800 words ≡ words_text words

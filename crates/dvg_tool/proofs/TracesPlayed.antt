@@ -14,7 +14,7 @@ use Rattle.dvg_io.specs.Faults.{ComesBeforeText}
 use Rattle.dvg_io.specs.Serving.{Answers, IsFinding, OfInput}
 use Rattle.dvg_io.specs.Watching.{BeginsToWrite, stream_of}
 use Rattle.dvg_io.proofs.Inputs.{whole}
-use Rattle.dvg_io.proofs.Known.{Appends-nil}
+use Rattle.dvg_io.proofs.KnownBytesChain.{Appends-nil}
 use Rattle.dvg_tool.specs.Plays.{IsShown, Plays, StopsBeforeShowing, log_text}
 use Rattle.dvg_read.specs.declared.draft_text.TheConstants.{MOST_TEXT_BYTES}
 

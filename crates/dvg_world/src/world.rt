@@ -253,7 +253,7 @@ impl<S: Store> World<S> {
 
     /// Lets the driver do one action, as by `Event::Tick`. Returns the entry.
     #[inline(always)]
-    #[tactic(auto, using(crate::proofs::Standing::acts_idle))]
+    #[tactic(auto, using(crate::proofs::EventsAddLines::acts_idle))]
     pub fn tick(&mut self) -> Entry<()>
         ensures stands { AddsLine self.old Tick (shown_in self.new result) self.new }
         ensures headline { KeepsHeadlineAfter self.old Tick (shown_in self.new result) }

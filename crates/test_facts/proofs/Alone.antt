@@ -9,12 +9,12 @@ use Rattle.dvg_gen.specs.declared.taken.Taken.TheVariants.{Low, Word, Done, Brok
 use Rattle.dvg_gen.specs.Machine.{Machine, HasTaken, answer_of}
 use Rattle.dvg_gen.specs.Run.{Visit, Goes, Runs, begins, fate}
 use Rattle.dvg_gen.specs.Told.{Start, Reply, new, starts, wants}
-use Rattle.dvg_gen.proofs.Same.{before_end, leaves_same}
+use Rattle.dvg_gen.proofs.OneRun.{before_end, leaves_same}
 use Rattle.dvg_dump.specs.Ends.{End, Complete, Broken, Ends, halts, breaks, meets_hole, goes_on}
 use Rattle.dvg_dump.specs.Following.{Follows, TakesWord}
 use Rattle.dvg_dump.specs.Tracing.{Stepped, Traces, TracesWord, fresh}
 use Rattle.dvg_dump.proofs.OneEnd.{one_end}
-use Rattle.dvg_dump.proofs.Stepping.{stepped, wanted_is}
+use Rattle.dvg_dump.proofs.OneWordMore.{stepped, wanted_is}
 use Rattle.test_facts.specs.Facts.{IsComplete}
 
 -- only a low byte is answered by none

@@ -10,7 +10,7 @@ use Rattle.dvg_gen.specs.Machine.{Machine, HasTaken, Answers, answer_by, picture
 use Rattle.dvg_gen.specs.Run.{one}
 use Rattle.dvg_gen.specs.Told.{Told, Start, Drew, starts, takes}
 use Rattle.dvg_gen.proofs.Rows.{HasReply}
-use Rattle.dvg_dump.proofs.Stepping.{is_low}
+use Rattle.dvg_dump.proofs.OneWordMore.{is_low}
 
 -- after a start, B000 finishes a run that drew nothing
 pub halt_after : {machine : Machine} {low : Option ℕ} (history : List Told) → HasTaken machine history low

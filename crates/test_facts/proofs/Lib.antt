@@ -1,6 +1,6 @@
 pub mod Clients
 pub mod FirstPicture
-pub mod Judged
+pub mod TornPicture
 pub mod Refused
 pub mod Jumping
 pub mod Halted
@@ -11,5 +11,5 @@ pub mod Alone
 pub mod FourFrames
 pub mod TraceRuns
 pub mod Handed
-pub mod Moved
+pub mod ShortVectorMove
 pub mod Opening

@@ -1,4 +1,4 @@
-use Rattle.dvg_calls_6502.proofs.Answering.{offer_answers, open_answers, redraw_answers}
+use Rattle.dvg_calls_6502.proofs.CallAnswers.{offer_answers, open_answers, redraw_answers}
 use Rattle.dvg_calls_6502.proofs.answers.Goals as goal
 
 pub returns : goal.returns

@@ -2,7 +2,7 @@ use Rattle.std.proofs.Common.{refl}
 use Rattle.dvg_calls_6502.proofs.Building.{put_takes}
 use Rattle.dvg_calls_6502.proofs.BuildCalls.{puts_refuse, open_refuses, close_refuses}
 use Rattle.dvg_calls_6502.proofs.Pairing.{pair_takes, labs_takes}
-use Rattle.dvg_calls_6502.proofs.Closing.{open_is_taken, close_takes, idle_ticks, run_returns}
+use Rattle.dvg_calls_6502.proofs.OpenAndClose.{open_is_taken, close_takes, idle_ticks, run_returns}
 use Rattle.dvg_calls_6502.proofs.VectorBuilds.{vector_takes, vector_refuses}
 use Rattle.dvg_calls_6502.proofs.VectorDraws.{vector_draws}
 use Rattle.dvg_calls_6502.proofs.BuildScript.{builds_script}

@@ -1,4 +1,4 @@
-use Rattle.dvg_calls_6502.proofs.Whole.{builds_frame, builds_life}
+use Rattle.dvg_calls_6502.proofs.FrameOfCalls.{builds_frame, builds_life}
 use Rattle.dvg_calls_6502.proofs.Example.{some_frame}
 use Rattle.dvg_calls_6502.proofs.builds_frame.Goals as goal
 

@@ -1,4 +1,4 @@
-use Rattle.dvg_calls_cells.proofs.Owning.{nmi, own}
+use Rattle.dvg_calls_cells.proofs.CellsLeaveBoard.{nmi, own}
 use Rattle.dvg_calls_cells.proofs.own_is_quiet.Goals as goal
 
 pub returns : goal.returns

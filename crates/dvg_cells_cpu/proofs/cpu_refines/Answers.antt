@@ -1,4 +1,4 @@
-use Rattle.dvg_cells_cpu.proofs.Whole.{refines}
+use Rattle.dvg_cells_cpu.proofs.EachOpcode.{refines}
 use Rattle.dvg_cells_cpu.proofs.cpu_refines.Goals as goal
 
 pub returns : goal.returns

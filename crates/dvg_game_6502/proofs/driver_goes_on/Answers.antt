@@ -1,4 +1,4 @@
-use Rattle.dvg_game_6502.proofs.Opened.{driver_begins, driver_ends, driver_steps, nmi_passes}
+use Rattle.dvg_game_6502.proofs.OpenCall.{driver_begins, driver_ends, driver_steps, nmi_passes}
 use Rattle.dvg_game_6502.proofs.driver_goes_on.Goals as goal
 
 pub returns : goal.returns

@@ -1,4 +1,4 @@
-use Rattle.dvg_game_cells.proofs.Whole.{games_on_cells_keep}
+use Rattle.dvg_game_cells.proofs.CabinetOfCells.{games_on_cells_keep}
 use Rattle.dvg_game_cells.proofs.games_on_cells_keep.Goals as goal
 
 pub returns : goal.returns

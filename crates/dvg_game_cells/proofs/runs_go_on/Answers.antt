@@ -1,4 +1,4 @@
-use Rattle.dvg_game_cells.proofs.Lasting.{runs_go_on}
+use Rattle.dvg_game_cells.proofs.RunCanGoOn.{runs_go_on}
 use Rattle.dvg_game_cells.proofs.runs_go_on.Goals as goal
 
 pub returns : goal.returns

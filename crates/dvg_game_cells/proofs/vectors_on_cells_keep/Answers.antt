@@ -1,4 +1,4 @@
-use Rattle.dvg_game_cells.proofs.Whole.{vectors_on_cells_keep}
+use Rattle.dvg_game_cells.proofs.CabinetOfCells.{vectors_on_cells_keep}
 use Rattle.dvg_game_cells.proofs.vectors_on_cells_keep.Goals as goal
 
 pub returns : goal.returns

@@ -1,4 +1,4 @@
-use Rattle.dvg_game_content.proofs.Whole.{content_by_bytes}
+use Rattle.dvg_game_content.proofs.ContentFromBytes.{content_by_bytes}
 use Rattle.dvg_game_content.proofs.content_by_bytes.Goals as goal
 
 pub returns : goal.returns

@@ -1,4 +1,4 @@
-use Rattle.dvg_game_rules.proofs.Whole.{checked_is_safe}
+use Rattle.dvg_game_rules.proofs.RunsAreSafe.{checked_is_safe}
 use Rattle.dvg_game_rules.proofs.checked_safe.Goals as goal
 
 pub returns : goal.returns

@@ -1,4 +1,4 @@
-use Rattle.dvg_game_rules.proofs.Alike.{steps_alike, interrupts_alike}
+use Rattle.dvg_game_rules.proofs.StepsByKind.{steps_alike, interrupts_alike}
 use Rattle.dvg_game_rules.proofs.steps_alike.Goals as goal
 
 pub returns : goal.returns

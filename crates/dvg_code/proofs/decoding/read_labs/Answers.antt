@@ -1,5 +1,5 @@
 use Rattle.std.proofs.Common.{arith}
-use Rattle.dvg_code.proofs.Reading.{labs_read}
+use Rattle.dvg_code.proofs.FieldsSpell.{labs_read}
 use Rattle.dvg_code.proofs.decoding.read_labs.Goals as goal
 
 pub returns : goal.returns

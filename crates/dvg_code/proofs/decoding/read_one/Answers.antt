@@ -1,5 +1,5 @@
 use Rattle.std.proofs.Common.{arith}
-use Rattle.dvg_code.proofs.Reading.{halt_read, jsrl_read, rtsl_read, jmpl_read}
+use Rattle.dvg_code.proofs.FieldsSpell.{halt_read, jsrl_read, rtsl_read, jmpl_read}
 use Rattle.dvg_code.proofs.decoding.read_one.Goals as goal
 
 pub returns-in-11 : goal.returns-in-11

@@ -2,7 +2,7 @@ use Rattle.std.proofs.Common.{◌<◌, arith, rules, subst, sym}
 use Rattle.std.proofs.lemmas.Int.{to_z-of_z}
 use mir.Val.{SFits}
 use mir.Syntax.{w16, w8}
-use Rattle.dvg_code.proofs.Reading.{svec_read, short_fits}
+use Rattle.dvg_code.proofs.FieldsSpell.{svec_read, short_fits}
 use Rattle.dvg_code.proofs.decoding.read_short.Goals as goal
 
 pub returns : goal.returns

@@ -2,7 +2,7 @@ use Rattle.std.proofs.Common.{arith, rules}
 use Rattle.std.proofs.lemmas.Int.{to_z-of_z}
 use mir.Val.{SFits}
 use mir.Syntax.{w16}
-use Rattle.dvg_code.proofs.Reading.{vctr_read}
+use Rattle.dvg_code.proofs.FieldsSpell.{vctr_read}
 use Rattle.dvg_code.proofs.decoding.read_vctr.Goals as goal
 
 pub returns : goal.returns

@@ -1,6 +1,6 @@
 use Rattle.std.proofs.Common.{◌≡◌, sym, subst}
 use Rattle.dvg_device.specs.Devices.{Driver, IsNewDriver}
-use Rattle.dvg_device.proofs.Found.{found_is, may_be_found}
+use Rattle.dvg_device.proofs.FoundInAnswer.{found_is, may_be_found}
 use Rattle.dvg_device.proofs.device.boxed_desk.Goals as goal
 
 pub returns : goal.returns

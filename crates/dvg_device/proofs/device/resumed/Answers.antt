@@ -5,7 +5,7 @@ use Rattle.dvg_driver.specs.Saved.{IsState, driving_in}
 use Rattle.dvg_device.specs.declared.reply.Reply.{Reply}
 use Rattle.dvg_device.specs.Resuming.{state_of}
 use Rattle.dvg_device.specs.Worlds.{Resumes, world_with}
-use Rattle.dvg_device.proofs.Parted.{can_stand, is_state}
+use Rattle.dvg_device.proofs.StateParts.{can_stand, is_state}
 use Rattle.dvg_device.proofs.device.resumed.Goals.{in-Ok, in-Err}
 use Rattle.dvg_device.proofs.device.resumed.Goals as goal
 

@@ -1,7 +1,7 @@
 use Rattle.std.proofs.Common.{[], sym, ◌∙◌}
 use Rattle.std.proofs.lemmas.Bool.{false≢true}
 use Rattle.dvg_log.specs.Log.{open_run}
-use Rattle.dvg_device.proofs.Judged.{none_of}
+use Rattle.dvg_device.proofs.JudgeSays.{none_of}
 use Rattle.dvg_device.proofs.judging.halt.Goals as goal
 
 pub returns-then-done : goal.returns-then-done

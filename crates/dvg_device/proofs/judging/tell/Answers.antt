@@ -4,7 +4,7 @@ use Rattle.dvg_log.specs.declared.entry.Entry.TheVariants as entries
 use Rattle.dvg_log.specs.declared.event.Event.TheVariants.{Tick, Strobe, Fetch, ResetGen, ResetAll}
 use Rattle.dvg_log.specs.Log.{◌⟼◌}
 use Rattle.dvg_device.specs.Judges.{IsTold, line_of}
-use Rattle.dvg_device.proofs.Judged.{reads_nothing, was_told}
+use Rattle.dvg_device.proofs.JudgeSays.{reads_nothing, was_told}
 use Rattle.dvg_device.proofs.judging.tell.Goals as goal
 
 pub returns-in-Passed : goal.returns-in-Passed

@@ -2,7 +2,7 @@ use Rattle.std.proofs.lemmas.List.Elements.{All-from_recursion}
 use Rattle.dvg_device.specs.Laws.{Fits}
 use Rattle.dvg_device.specs.States.{parts_of, word_of}
 use Rattle.dvg_device.proofs.Restored.{all_fit}
-use Rattle.dvg_device.proofs.Worded.{passed_on, read_again, word_small}
+use Rattle.dvg_device.proofs.PartsInWords.{passed_on, read_again, word_small}
 use Rattle.dvg_device.proofs.laws.parts_are_passed_on.Goals as goal
 
 pub returns-clause-read : goal.returns-clause-read

@@ -3,7 +3,7 @@ use Rattle.std.specs.Prelude.{slice_get}
 use Rattle.dvg_gen.specs.declared.stroke.Stroke.{Stroke}
 use Rattle.dvg_device.specs.declared.state.StatePart.TheVariants.{Place}
 use Rattle.dvg_device.specs.States.{stroke_parts}
-use Rattle.dvg_device.proofs.Parted.{last_place, no_place, past_place, stroke_part}
+use Rattle.dvg_device.proofs.StateParts.{last_place, no_place, past_place, stroke_part}
 use Rattle.dvg_device.proofs.lone.drawing_part.Goals.{else-stroke-count-2-via-then-stroke-count-2+else-i-eq0}
 use Rattle.dvg_device.proofs.lone.drawing_part.Goals.{else-stroke-count-2-via-else-stroke-count-2}
 use Rattle.dvg_device.proofs.lone.drawing_part.Goals as goal

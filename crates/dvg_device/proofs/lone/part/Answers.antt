@@ -1,7 +1,7 @@
 use Rattle.std.proofs.Common.{◌-◌, length, reverse, ap, ◌∙◌, arith, slice_get}
 use Rattle.dvg_gen.specs.Saved.{machine_of}
 use Rattle.dvg_device.specs.States.{drawing_parts}
-use Rattle.dvg_device.proofs.Parted.{address_part, later_part}
+use Rattle.dvg_device.proofs.StateParts.{address_part, later_part}
 use Rattle.dvg_device.proofs.lone.part.Goals as goal
 
 pub returns-then-i-returns : goal.returns-then-i-returns

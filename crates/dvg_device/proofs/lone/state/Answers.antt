@@ -1,4 +1,4 @@
-use Rattle.dvg_device.proofs.Parted.{can_be_saved}
+use Rattle.dvg_device.proofs.StateParts.{can_be_saved}
 use Rattle.dvg_device.proofs.lone.state.Goals as goal
 
 pub returns-clause-saved : goal.returns-clause-saved

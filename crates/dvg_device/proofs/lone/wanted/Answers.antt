@@ -1,7 +1,7 @@
 use Rattle.std.proofs.Common.{sym, ap, ◌∙◌}
 use Rattle.dvg_device.specs.declared.reply.Reply.TheVariants.{Wants}
 use Rattle.dvg_device.specs.Generators.{wanting}
-use Rattle.dvg_device.proofs.Wanted.{same_flag}
+use Rattle.dvg_device.proofs.HighByteWanted.{same_flag}
 use Rattle.dvg_device.proofs.lone.wanted.Goals as goal
 
 pub returns-in-Some : goal.returns-in-Some

@@ -1,6 +1,6 @@
 use Rattle.std.proofs.Common.{ap}
 use Rattle.dvg_device.specs.Wrappings.{saved_of}
-use Rattle.dvg_device.proofs.Parted.{can_be_saved_wrapped}
+use Rattle.dvg_device.proofs.StateParts.{can_be_saved_wrapped}
 use Rattle.dvg_device.proofs.wrapping.state.Goals as goal
 
 pub returns-clause-saved : goal.returns-clause-saved

@@ -1,7 +1,7 @@
 use Rattle.std.proofs.Common.{◌≡◌, ◌%◌, ◌/◌, None, arith, get_or, rules}
 use Rattle.dvg_gen.specs.Machine.{answer_by}
 use Rattle.dvg_dump.proofs.Silent.{both_draw_nothing}
-use Rattle.dvg_dump.proofs.Stepping.{is_low, takes_both, takes_hole}
+use Rattle.dvg_dump.proofs.OneWordMore.{is_low, takes_both, takes_hole}
 use Rattle.dvg_dump.proofs.runs.take_word.Goals as goal
 
 pub returns-in_default-clause-takes : goal.returns-in_default-clause-takes

@@ -1,5 +1,5 @@
 use Rattle.std.proofs.Common.{◌∙◌}
-use Rattle.dvg_dump.proofs.Telling.{read_as}
+use Rattle.dvg_dump.proofs.TracerTells.{read_as}
 use Rattle.dvg_dump.proofs.tracer.read.Goals as goal
 
 pub returns-in-Ok-clause-found : goal.returns-in-Ok-clause-found

@@ -1,5 +1,5 @@
 use Rattle.std.proofs.Common.{rules}
-use Rattle.dvg_io.proofs.Went.{writes_first, writes_second}
+use Rattle.dvg_io.proofs.WrittenSoFar.{writes_first, writes_second}
 use Rattle.dvg_explain.proofs.engine.write_told.Goals as goal
 
 pub returns-in_err-write_lines : goal.returns-in_err-write_lines

@@ -1,7 +1,7 @@
 use Rattle.std.proofs.Common.{⊎_elim, Err, Ok, Result, refl}
 use Rattle.dvg_frame.specs.declared.fault.FrameFault.{FrameFault}
 use Rattle.dvg_frame.specs.Faults.{FrameState, IsChecked}
-use Rattle.dvg_frame.proofs.Answered.{answered}
+use Rattle.dvg_frame.proofs.AcceptedOrFault.{answered}
 use Rattle.dvg_frame.proofs.Bounded.{some_picture}
 use Rattle.dvg_frame.proofs.OneFault.{one_checked}
 use Rattle.dvg_frame.proofs.laws.one_answer.Goals as goal

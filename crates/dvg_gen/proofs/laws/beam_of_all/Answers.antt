@@ -1,4 +1,4 @@
-use Rattle.dvg_gen.proofs.Whole.{some_completed, beam_of_completed}
+use Rattle.dvg_gen.proofs.BeamOfHistory.{some_completed, beam_of_completed}
 use Rattle.dvg_gen.proofs.laws.beam_of_all.Goals as goal
 
 pub returns : goal.returns

@@ -1,4 +1,4 @@
-use Rattle.dvg_gen.proofs.Alike.{alike, unbroken}
+use Rattle.dvg_gen.proofs.WrappingStack.{alike, unbroken}
 use Rattle.dvg_gen.proofs.laws.wrapping_stack.Goals as goal
 
 pub returns-clause-unbroken : goal.returns-clause-unbroken

@@ -2,7 +2,7 @@ use Rattle.std.proofs.Common.{rules, flat_map, drop, ◌+◌}
 use Rattle.dvg_print.specs.Shows.{stroke_line}
 use Rattle.dvg_io.specs.Watching.{BeginsToWrite, stream_of}
 use Rattle.dvg_io.proofs.StrokeLines.{line_at, next_line}
-use Rattle.dvg_io.proofs.Went.{piece_begun, piece_more}
+use Rattle.dvg_io.proofs.WrittenSoFar.{piece_begun, piece_more}
 use Rattle.dvg_io.proofs.strokes.write_strokes_in.Goals as goal
 
 pub returns-in_err-write_whole : goal.returns-in_err-write_whole

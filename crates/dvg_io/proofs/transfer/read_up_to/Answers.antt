@@ -1,5 +1,5 @@
 use Rattle.std.proofs.Common.{rules, take}
-use Rattle.dvg_io.proofs.Known.{takes_more}
+use Rattle.dvg_io.proofs.KnownBytesChain.{takes_more}
 use Rattle.dvg_io.proofs.transfer.read_up_to.Goals as goal
 
 pub returns-then-is_err-clause-took : goal.returns-then-is_err-clause-took

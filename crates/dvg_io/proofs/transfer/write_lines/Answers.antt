@@ -2,8 +2,8 @@ use Rattle.std.proofs.Common.{rules, ◌+◌, length, take}
 use Rattle.std.specs.Prelude.{slice_range}
 use Rattle.std.specs.Io.KnownBytes.{Appends}
 use Rattle.dvg_io.specs.Watching.{BeginsToWrite, stream_of}
-use Rattle.dvg_io.proofs.Known.{front_and_rest}
-use Rattle.dvg_io.proofs.Went.{piece_begun, piece_more, writes_rest}
+use Rattle.dvg_io.proofs.KnownBytesChain.{front_and_rest}
+use Rattle.dvg_io.proofs.WrittenSoFar.{piece_begun, piece_more, writes_rest}
 use Rattle.dvg_io.proofs.transfer.write_lines.Goals as goal
 
 pub returns-in_err-write_whole : goal.returns-in_err-write_whole

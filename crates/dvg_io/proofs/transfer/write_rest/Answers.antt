@@ -1,6 +1,6 @@
 use Rattle.std.proofs.Common.{◌++◌, ◌∙◌, take, rules}
 use Rattle.dvg_io.specs.Watching.{BeginsToWrite}
-use Rattle.dvg_io.proofs.Known.{Appends-trans, Appends-kept, moves_front}
+use Rattle.dvg_io.proofs.KnownBytesChain.{Appends-trans, Appends-kept, moves_front}
 use Rattle.dvg_io.proofs.transfer.write_rest.Goals as goal
 
 pub loop-rest-preserved : goal.loop-rest-preserved

@@ -1,8 +1,8 @@
 use Rattle.std.proofs.Common.{length, take}
 use Rattle.std.specs.Prelude.{slice_range}
 use Rattle.dvg_io.specs.Watching.{stream_of}
-use Rattle.dvg_io.proofs.Known.{front_and_rest}
-use Rattle.dvg_io.proofs.Went.{nothing, piece_more, writes_rest}
+use Rattle.dvg_io.proofs.KnownBytesChain.{front_and_rest}
+use Rattle.dvg_io.proofs.WrittenSoFar.{nothing, piece_more, writes_rest}
 use Rattle.dvg_io.proofs.transfer.write_whole.Goals as goal
 
 pub returns : goal.returns

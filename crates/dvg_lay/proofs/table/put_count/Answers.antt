@@ -1,5 +1,5 @@
 use Rattle.std.proofs.lemmas.Result.{on_ok_weaker}
-use Rattle.dvg_lay.proofs.Grew.{grew_by_3}
+use Rattle.dvg_lay.proofs.TextsGrow.{grew_by_3}
 use Rattle.dvg_lay.proofs.table.put_count.Goals as goal
 
 pub returns : goal.returns

@@ -2,7 +2,7 @@ use Rattle.std.proofs.Common.{◌≡◌, ◌∙◌, ◌+◌, add-one, ap, arith,
 use Rattle.dvg_mem.specs.Memory.{fetched}
 use Rattle.dvg_lay.specs.Times.{local_scale, told, with_one}
 use Rattle.dvg_lay.specs.Walks.{Does}
-use Rattle.dvg_lay.proofs.Walked.{Follows, at_end, at_hole, at_last, follows_first, follows_held, follows_on}
+use Rattle.dvg_lay.proofs.TimedRun.{Follows, at_end, at_hole, at_last, follows_first, follows_held, follows_on}
 use Rattle.dvg_lay.proofs.walk.time_over.Goals.{in-Some-read+else-not-obey, in_default-read}
 use Rattle.dvg_lay.proofs.walk.time_over.Goals as goal
 

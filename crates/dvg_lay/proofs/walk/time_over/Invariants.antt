@@ -1,6 +1,6 @@
 use Rattle.std.proofs.Common.{◌≤◌, ◌*◌}
 use Rattle.dvg_mem.specs.Memory.{fetched}
-use Rattle.dvg_lay.proofs.Walked.{Follows}
+use Rattle.dvg_lay.proofs.TimedRun.{Follows}
 use Rattle.dvg_lay.proofs.walk.time_over.Given as goal
 
 abbrev pub invariant-loop-step : goal.invariant-loop-step

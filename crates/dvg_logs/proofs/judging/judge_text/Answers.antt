@@ -1,7 +1,7 @@
 use Rattle.std.proofs.Common.{◌≤◌, ◌<◌, ◌++◌, ◌∙◌, [], length, take, length-take, sym, subst, arith, IfSome}
 use Rattle.std.specs.Io.KnownBytes.{Consumes}
 use Rattle.dvg_io.specs.Watching.{stream_of}
-use Rattle.dvg_io.proofs.Known.{Consumes-trans}
+use Rattle.dvg_io.proofs.KnownBytesChain.{Consumes-trans}
 use Rattle.dvg_read.specs.Texts.{lines}
 use Rattle.dvg_logs.specs.Judging.{ReadsAs}
 use Rattle.dvg_logs.proofs.Inputs.{ends_input, stops_at_end, stops_input}

@@ -2,7 +2,7 @@ use Rattle.std.proofs.Common.{◌≤◌, ◌<◌, ◌++◌, ◌∙◌, length, l
 use Rattle.std.specs.Io.KnownBytes.{Consumes}
 use Rattle.dvg_io.specs.declared.fault.ToolFault.TheVariants.{Reader}
 use Rattle.dvg_io.specs.Watching.{failures_of, stream_of}
-use Rattle.dvg_io.proofs.Known.{Consumes-trans}
+use Rattle.dvg_io.proofs.KnownBytesChain.{Consumes-trans}
 use Rattle.dvg_logs.proofs.Tellings.{none_failed, takes_known, tears_known, told_ends, told_reader, told_stops}
 use Rattle.dvg_logs.proofs.tears_all.torn_all.Goals as goal
 

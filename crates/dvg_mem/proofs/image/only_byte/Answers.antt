@@ -1,5 +1,5 @@
 use Rattle.std.specs.Cmp.Lexicographic.{same_text}
-use Rattle.dvg_mem.proofs.Filled.{one_byte}
+use Rattle.dvg_mem.proofs.OneByteThroughout.{one_byte}
 use Rattle.dvg_mem.proofs.image.only_byte.Goals as goal
 
 pub returns-then-eq : goal.returns-then-eq

@@ -2,7 +2,7 @@ use Rattle.std.proofs.Common.{ap, ◌∙◌, Err}
 use Rattle.std.proofs.lemmas.Result.{err_from_is_err_and}
 use Rattle.dvg_dump.specs.Endings.{end_of}
 use Rattle.dvg_io.proofs.Served.{served, unserved}
-use Rattle.dvg_picture.proofs.Shown.{drew, stops}
+use Rattle.dvg_picture.proofs.PictureOfInput.{drew, stops}
 use Rattle.dvg_dump.specs.declared.dump.TheConstants.{LARGE_DUMP_BYTES}
 use Rattle.dvg_picture.proofs.engine.picture.Goals as goal
 

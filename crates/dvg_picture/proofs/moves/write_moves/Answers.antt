@@ -1,6 +1,6 @@
 use Rattle.std.proofs.Common.{rules, flat_map, drop, ◌+◌, option_to_list}
 use Rattle.dvg_io.specs.Watching.{BeginsToWrite, stream_of}
-use Rattle.dvg_io.proofs.Went.{piece_begun, piece_more}
+use Rattle.dvg_io.proofs.WrittenSoFar.{piece_begun, piece_more}
 use Rattle.dvg_dump.specs.Units.{moves_ahead}
 use Rattle.dvg_picture.specs.Texts.{moved_text}
 use Rattle.dvg_picture.proofs.Recorded.{next_moves}

@@ -2,7 +2,7 @@ use Rattle.std.proofs.Common.{rules, cond, flat_map}
 use Rattle.dvg_gen.specs.Moving.{seen}
 use Rattle.dvg_print.specs.Shows.{stroke_line}
 use Rattle.dvg_dump.specs.Units.{moves_ahead, setting_out}
-use Rattle.dvg_io.proofs.Went.{writes_first, writes_second}
+use Rattle.dvg_io.proofs.WrittenSoFar.{writes_first, writes_second}
 use Rattle.dvg_picture.proofs.writes.write_picture.Goals as goal
 
 pub returns-in_err-write_whole : goal.returns-in_err-write_whole

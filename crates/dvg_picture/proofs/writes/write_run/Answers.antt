@@ -3,7 +3,7 @@ use Rattle.dvg_dump.specs.Endings.{end_of}
 use Rattle.dvg_dump.specs.Units.{moves_ahead, setting_out}
 use Rattle.dvg_print.specs.RunLines.{move_line}
 use Rattle.dvg_io.specs.Watching.{one_more}
-use Rattle.dvg_io.proofs.Went.{BrokeOff, Wrote, both, second_begun, writes_first, writes_second}
+use Rattle.dvg_io.proofs.WrittenSoFar.{BrokeOff, Wrote, both, second_begun, writes_first, writes_second}
 use Rattle.dvg_picture.specs.Texts.{end_text, ran_text}
 use Rattle.dvg_picture.proofs.Recorded.{asked_moves, asked_ran}
 use Rattle.dvg_picture.proofs.writes.write_run.Goals as goal

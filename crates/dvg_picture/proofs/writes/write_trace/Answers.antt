@@ -1,8 +1,8 @@
 use Rattle.std.proofs.Common.{rules, flat_map, drop, ◌+◌}
 use Rattle.dvg_io.specs.Watching.{BeginsToWrite, stream_of}
-use Rattle.dvg_io.proofs.Went.{piece_begun, piece_more}
+use Rattle.dvg_io.proofs.WrittenSoFar.{piece_begun, piece_more}
 use Rattle.dvg_picture.specs.Texts.{ran_text}
-use Rattle.dvg_picture.proofs.Shown.{next_ran}
+use Rattle.dvg_picture.proofs.PictureOfInput.{next_ran}
 use Rattle.dvg_picture.proofs.writes.write_trace.Goals as goal
 
 pub returns-in_err-write_ran : goal.returns-in_err-write_ran

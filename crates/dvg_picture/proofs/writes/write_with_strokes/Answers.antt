@@ -1,6 +1,6 @@
 use Rattle.std.proofs.Common.{rules, flat_map}
 use Rattle.dvg_print.specs.Shows.{stroke_line}
-use Rattle.dvg_io.proofs.Went.{writes_first, writes_second}
+use Rattle.dvg_io.proofs.WrittenSoFar.{writes_first, writes_second}
 use Rattle.dvg_picture.proofs.writes.write_with_strokes.Goals as goal
 
 pub returns-in_err-write_whole : goal.returns-in_err-write_whole

@@ -1,4 +1,4 @@
-use Rattle.dvg_progress.proofs.Halting.{halts_in_time}
+use Rattle.dvg_progress.proofs.FetchesSoFar.{halts_in_time}
 use Rattle.dvg_progress.proofs.laws.halts_in_time.Goals as goal
 
 pub returns : goal.returns

@@ -1,4 +1,4 @@
-use Rattle.dvg_progress.proofs.Writing.{published_in_time}
+use Rattle.dvg_progress.proofs.WritesUntilFlip.{published_in_time}
 use Rattle.dvg_progress.proofs.laws.published_in_time.Goals as goal
 
 pub returns : goal.returns

@@ -1,4 +1,4 @@
-use Rattle.dvg_progress.proofs.Sending.{sent_in_time}
+use Rattle.dvg_progress.proofs.StrobeAfterFlip.{sent_in_time}
 use Rattle.dvg_progress.proofs.laws.sent_in_time.Goals as goal
 
 pub returns : goal.returns

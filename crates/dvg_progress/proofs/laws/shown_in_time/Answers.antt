@@ -1,4 +1,4 @@
-use Rattle.dvg_progress.proofs.Together.{shown_in_time}
+use Rattle.dvg_progress.proofs.WayOfFrame.{shown_in_time}
 use Rattle.dvg_progress.proofs.laws.shown_in_time.Goals as goal
 
 pub returns : goal.returns

@@ -1,6 +1,6 @@
 use Rattle.std.proofs.Common.{rules, drop, get_or, ◌+◌}
 use Rattle.dvg_io.specs.Watching.{BeginsToWrite, stream_of}
-use Rattle.dvg_io.proofs.Went.{piece_begun, piece_more}
+use Rattle.dvg_io.proofs.WrittenSoFar.{piece_begun, piece_more}
 use Rattle.dvg_svg.specs.Parts.{joined}
 use Rattle.dvg_svg.proofs.Steps.{next_or, no_part}
 use Rattle.dvg_svg.proofs.parts.write_parts.Goals as goal

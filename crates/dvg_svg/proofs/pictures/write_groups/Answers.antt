@@ -1,6 +1,6 @@
 use Rattle.std.proofs.Common.{rules, drop, ◌+◌, ◌-◌, length}
 use Rattle.dvg_io.specs.Watching.{BeginsToWrite, stream_of}
-use Rattle.dvg_io.proofs.Went.{piece_begun, piece_more}
+use Rattle.dvg_io.proofs.WrittenSoFar.{piece_begun, piece_more}
 use Rattle.dvg_svg.specs.Svg.{group, groups, strokes_of}
 use Rattle.dvg_svg.proofs.Steps.{next_picture}
 use Rattle.dvg_svg.proofs.pictures.write_groups.Goals as goal

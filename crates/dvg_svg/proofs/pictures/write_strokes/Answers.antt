@@ -2,7 +2,7 @@ use Rattle.std.proofs.Common.{rules, drop, get_or, ◌+◌}
 use Rattle.dvg_print.specs.Svg.{path_line}
 use Rattle.dvg_io.specs.Watching.{BeginsToWrite, stream_of}
 use Rattle.dvg_print.proofs.StrokeTexts.{no_stroke}
-use Rattle.dvg_io.proofs.Went.{piece_begun, piece_more}
+use Rattle.dvg_io.proofs.WrittenSoFar.{piece_begun, piece_more}
 use Rattle.dvg_svg.specs.Svg.{stroke_lines}
 use Rattle.dvg_svg.proofs.Steps.{next_or}
 use Rattle.dvg_svg.proofs.pictures.write_strokes.Goals as goal

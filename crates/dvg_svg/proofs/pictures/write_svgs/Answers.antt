@@ -1,5 +1,5 @@
 use Rattle.std.proofs.Common.{rules, ◌++◌, None}
-use Rattle.dvg_io.proofs.Went.{writes_first, writes_second}
+use Rattle.dvg_io.proofs.WrittenSoFar.{writes_first, writes_second}
 use Rattle.dvg_svg.specs.Svg.{begin_lines, pictures_text, strokes_of, end_lines}
 use Rattle.dvg_svg.proofs.Steps.{broke_second, wrote_both}
 use Rattle.dvg_svg.proofs.pictures.write_svgs.Goals as goal

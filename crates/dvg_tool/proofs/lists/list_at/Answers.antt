@@ -1,6 +1,6 @@
 use Rattle.std.proofs.Common.{rules}
 use Rattle.dvg_io.proofs.Inputs.{too_long}
-use Rattle.dvg_tool.proofs.Whole.{odd, lists}
+use Rattle.dvg_tool.proofs.PrefixDecides.{odd, lists}
 use Rattle.dvg_tool.specs.declared.lists.TheConstants.{MOST_LIST_BYTES}
 use Rattle.dvg_tool.proofs.lists.list_at.Goals as goal
 

@@ -2,7 +2,7 @@ use Rattle.std.proofs.Common.{ap, map, subst}
 use Rattle.dvg_world.specs.Kept.{Draws, picture_seen}
 use Rattle.dvg_world.proofs.KeptSoFar.{happened_none, happened_so}
 use Rattle.dvg_tool.specs.Plays.{zeros}
-use Rattle.dvg_tool.proofs.Played.{zeros_are_image}
+use Rattle.dvg_tool.proofs.ZerosAreImage.{zeros_are_image}
 use Rattle.dvg_tool.proofs.plays_pictures.draw_text.Goals as goal
 
 pub returns-in_default : goal.returns-in_default

@@ -2,7 +2,7 @@ use Rattle.std.proofs.Common.{rules, ◌∷◌, [], ◌++◌, codes, decimal, fl
 use Rattle.dvg_print.specs.Lines.{spaced}
 use Rattle.dvg_print.specs.Shows.{stroke_line}
 use Rattle.dvg_io.specs.Watching.{Writes}
-use Rattle.dvg_io.proofs.Went.{writes_first, writes_second}
+use Rattle.dvg_io.proofs.WrittenSoFar.{writes_first, writes_second}
 use Rattle.dvg_tool.proofs.plays_pictures.write_picture.Goals as goal
 
 pub returns-in_err-write_whole : goal.returns-in_err-write_whole

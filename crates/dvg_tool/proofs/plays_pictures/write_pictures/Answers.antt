@@ -1,7 +1,7 @@
 use Rattle.std.proofs.Common.{rules, ◌+◌, drop, flat_map, map}
 use Rattle.dvg_world.specs.Kept.{picture_seen}
 use Rattle.dvg_io.specs.Watching.{BeginsToWrite, stream_of}
-use Rattle.dvg_io.proofs.Went.{piece_begun, piece_more}
+use Rattle.dvg_io.proofs.WrittenSoFar.{piece_begun, piece_more}
 use Rattle.dvg_tool.specs.Plays.{picture_text}
 use Rattle.dvg_tool.proofs.DrawnPlayed.{next_picture}
 use Rattle.dvg_tool.proofs.plays_pictures.write_pictures.Goals as goal

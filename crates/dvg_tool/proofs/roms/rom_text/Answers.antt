@@ -1,7 +1,7 @@
 use Rattle.std.proofs.Common.{ap, ◌∙◌, Err}
 use Rattle.std.proofs.lemmas.Result.{err_from_is_err_and}
 use Rattle.dvg_io.proofs.Served.{served, unserved}
-use Rattle.dvg_tool.proofs.Whole.{rom_stops, rom_written}
+use Rattle.dvg_tool.proofs.PrefixDecides.{rom_stops, rom_written}
 use Rattle.dvg_mem.specs.declared.TheConstants.{LARGE_ROM_BYTES}
 use Rattle.dvg_tool.proofs.roms.rom_text.Goals as goal
 

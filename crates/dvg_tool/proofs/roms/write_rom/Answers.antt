@@ -1,6 +1,6 @@
 use Rattle.std.proofs.Common.{rules}
 use Rattle.dvg_print.specs.Lines.{rom_lines}
-use Rattle.dvg_io.proofs.Went.{writes_first, writes_second}
+use Rattle.dvg_io.proofs.WrittenSoFar.{writes_first, writes_second}
 use Rattle.dvg_tool.proofs.roms.write_rom.Goals as goal
 
 pub returns-in_err-write_whole : goal.returns-in_err-write_whole

@@ -3,9 +3,9 @@ use Rattle.std.proofs.lemmas.List.{length-replicate}
 use Rattle.std.specs.Io.KnownBytes.{Appends}
 use Rattle.dvg_print.specs.Shows.{shown}
 use Rattle.dvg_io.specs.Watching.{BeginsToWrite, Went, stream_of}
-use Rattle.dvg_io.proofs.Went.{all_of_it, piece_begun, piece_more}
+use Rattle.dvg_io.proofs.WrittenSoFar.{all_of_it, piece_begun, piece_more}
 use Rattle.dvg_world.specs.Keeping.{entry_in}
-use Rattle.dvg_tool.proofs.Shown.{shown_run}
+use Rattle.dvg_tool.proofs.EntryByEntry.{shown_run}
 use Rattle.dvg_tool.proofs.shows.write_entries.Goals as goal
 
 pub returns-in_err-write_run : goal.returns-in_err-write_run

@@ -4,8 +4,8 @@ use Rattle.std.proofs.lemmas.List.{nil_from_length}
 use Rattle.dvg_log.specs.Entries.{map_entry}
 use Rattle.dvg_print.specs.Shows.{entry_line, shown_entry, stroke_line}
 use Rattle.dvg_io.specs.Watching.{Writes}
-use Rattle.dvg_io.proofs.Went.{BrokeOff, Wrote, writes_first, writes_second}
-use Rattle.dvg_tool.proofs.Shown.{line_then}
+use Rattle.dvg_io.proofs.WrittenSoFar.{BrokeOff, Wrote, writes_first, writes_second}
+use Rattle.dvg_tool.proofs.EntryByEntry.{line_then}
 use Rattle.dvg_tool.proofs.shows.write_next.Goals as goal
 
 pub returns-in_err-write_whole-clause-written : goal.returns-in_err-write_whole-clause-written

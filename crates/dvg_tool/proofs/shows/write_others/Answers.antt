@@ -3,9 +3,9 @@ use Rattle.std.specs.Io.KnownBytes.{Appends}
 use Rattle.dvg_log.specs.Entries.{map_entry}
 use Rattle.dvg_print.specs.Shows.{entry_line, shown, shown_entry}
 use Rattle.dvg_io.specs.Watching.{BeginsToWrite, Went, stream_of}
-use Rattle.dvg_io.proofs.Went.{piece_begun, piece_more}
+use Rattle.dvg_io.proofs.WrittenSoFar.{piece_begun, piece_more}
 use Rattle.dvg_world.specs.Keeping.{entry_in}
-use Rattle.dvg_tool.proofs.Shown.{next_alike}
+use Rattle.dvg_tool.proofs.EntryByEntry.{next_alike}
 use Rattle.dvg_tool.proofs.shows.write_others.Goals as goal
 
 pub returns-in_err-write_next-clause-written : goal.returns-in_err-write_next-clause-written

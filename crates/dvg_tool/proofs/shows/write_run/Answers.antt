@@ -1,9 +1,9 @@
 use Rattle.std.proofs.Common.{rules, true, ℕ, ◌≡◌, ◌+◌, ◌-◌, replicate, sym, subst}
 use Rattle.dvg_print.specs.Shows.{shown, shown_entry}
 use Rattle.dvg_io.specs.Watching.{Writes}
-use Rattle.dvg_io.proofs.Went.{BrokeOff, Wrote, writes_first, writes_second}
+use Rattle.dvg_io.proofs.WrittenSoFar.{BrokeOff, Wrote, writes_first, writes_second}
 use Rattle.dvg_world.specs.Keeping.{entry_in}
-use Rattle.dvg_tool.proofs.Shown.{first_alike, one_alike}
+use Rattle.dvg_tool.proofs.EntryByEntry.{first_alike, one_alike}
 use Rattle.dvg_tool.proofs.shows.write_run.Goals as goal
 
 pub returns-in_err-write_next-clause-written : goal.returns-in_err-write_next-clause-written

@@ -1,8 +1,8 @@
 use Rattle.std.proofs.Common.{arith}
 use Rattle.dvg_log.specs.Traces.{seen_as}
 use Rattle.dvg_world.specs.Standing.{shown_in}
-use Rattle.dvg_world.proofs.Passing.{keeps_over}
-use Rattle.dvg_world.proofs.Running.{keeps_begin, keeps_next, keeps_rest, keeps_stops}
+use Rattle.dvg_world.proofs.IdleOffers.{keeps_over}
+use Rattle.dvg_world.proofs.LinesOfOneEvent.{keeps_begin, keeps_next, keeps_rest, keeps_stops}
 use Rattle.dvg_world.proofs.keeping.happen_times.Goals as goal
 
 pub loop-done-init : goal.loop-done-init

@@ -1,6 +1,6 @@
 use Rattle.std.proofs.Common.{◌∷◌, Some, None, ap, ◌∙◌}
 use Rattle.dvg_gen.specs.Told.{Start, reply}
-use Rattle.dvg_gen.proofs.Same.{leaves_same}
+use Rattle.dvg_gen.proofs.OneRun.{leaves_same}
 use Rattle.test_facts.proofs.Handed.{halt_after, is_empty}
 use Rattle.test_facts.proofs.generator.halt_makes_an_empty_picture.Goals as goal
 

@@ -1,6 +1,6 @@
 use Rattle.std.proofs.Common.{[], ◌∷◌, None, sym, ap, ◌∙◌}
 use Rattle.dvg_gen.specs.Told.{Start}
-use Rattle.test_facts.proofs.Moved.{no_move}
+use Rattle.test_facts.proofs.ShortVectorMove.{no_move}
 use Rattle.test_facts.proofs.generator.low_byte_moves_nothing.Goals as goal
 
 pub returns : goal.returns

@@ -1,7 +1,7 @@
 use Rattle.std.proofs.Common.{[], ◌∷◌, ap, ◌∙◌, Some, None}
 use Rattle.dvg_gen.specs.Told.{Start, reply}
 use Rattle.dvg_gen.proofs.Rows.{return_first}
-use Rattle.dvg_gen.proofs.Same.{leaves_same}
+use Rattle.dvg_gen.proofs.OneRun.{leaves_same}
 use Rattle.test_facts.proofs.Clients.{stack_under}
 use Rattle.test_facts.proofs.generator.return_without_a_call.Goals as goal
 

@@ -1,6 +1,6 @@
 use Rattle.std.proofs.Common.{[], ◌∷◌, Some, None, refl}
 use Rattle.dvg_gen.specs.Told.{Start}
-use Rattle.test_facts.proofs.Moved.{first_move}
+use Rattle.test_facts.proofs.ShortVectorMove.{first_move}
 use Rattle.test_facts.proofs.generator.short_vector_moves.Goals as goal
 
 pub returns : goal.returns

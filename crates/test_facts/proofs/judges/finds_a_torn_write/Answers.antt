@@ -1,4 +1,4 @@
-use Rattle.test_facts.proofs.Judged.{torn_at_2}
+use Rattle.test_facts.proofs.TornPicture.{torn_at_2}
 use Rattle.test_facts.proofs.judges.finds_a_torn_write.Goals as goal
 
 pub returns : goal.returns

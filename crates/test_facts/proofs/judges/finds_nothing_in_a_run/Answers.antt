@@ -2,7 +2,7 @@ use Rattle.std.proofs.Common.{map, sym, subst}
 use Rattle.dvg_log.specs.Events.{happening_of}
 use Rattle.dvg_log.specs.Legal.{IsLegal}
 use Rattle.dvg_world.specs.Runs.{log_of}
-use Rattle.test_facts.proofs.Judged.{is_none_of}
+use Rattle.test_facts.proofs.TornPicture.{is_none_of}
 use Rattle.test_facts.proofs.judges.finds_nothing_in_a_run.Goals as goal
 
 pub returns-in-Ok : goal.returns-in-Ok

@@ -1,6 +1,6 @@
 use Rattle.std.proofs.Common.{◌≡◌, ◌%◌, ◌/◌, None, arith, get_or, rules}
 use Rattle.dvg_gen.specs.Machine.{answer_of}
-use Rattle.dvg_dump.proofs.Stepping.{takes_both, takes_hole}
+use Rattle.dvg_dump.proofs.OneWordMore.{takes_both, takes_hole}
 use Rattle.test_facts.proofs.Alone.{was_low}
 use Rattle.test_facts.proofs.undisturbed.take_word.Goals as goal
 

@@ -1,6 +1,6 @@
 use Rattle.std.proofs.Common.{◌≡◌, [], subst}
 use Rattle.dvg_world.specs.Standing.{WorldAfter}
-use Rattle.dvg_device.proofs.Found.{found_is}
+use Rattle.dvg_device.proofs.FoundInAnswer.{found_is}
 use Rattle.dvg_device.proofs.cabinet.Cabinet.new.Goals as goal
 
 pub returns : goal.returns

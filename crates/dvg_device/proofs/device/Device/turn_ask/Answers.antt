@@ -1,6 +1,6 @@
 use Rattle.std.proofs.Common.{sym, ◌∙◌, subst}
 use Rattle.dvg_device.specs.Devices.{Answered, Numbered}
-use Rattle.dvg_device.proofs.Told.{told_apart}
+use Rattle.dvg_device.proofs.QuestionsApart.{told_apart}
 use Rattle.dvg_device.proofs.device.Device.turn_ask.Goals as goal
 
 pub returns : goal.returns

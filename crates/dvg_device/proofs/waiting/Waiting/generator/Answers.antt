@@ -3,7 +3,7 @@ use Rattle.std.proofs.lemmas.Bool.{false≢true}
 use Rattle.dvg_gen.specs.Machine.{Machine}
 use Rattle.dvg_gen.specs.Saved.{machine_of}
 use Rattle.dvg_device.specs.States.{CanStand}
-use Rattle.dvg_device.proofs.Parted.{can_stand, is_state}
+use Rattle.dvg_device.proofs.StateParts.{can_stand, is_state}
 use Rattle.dvg_device.proofs.waiting.Waiting.generator.Goals as goal
 
 pub returns-then-not-is_valid : goal.returns-then-not-is_valid

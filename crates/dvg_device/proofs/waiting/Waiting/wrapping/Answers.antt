@@ -5,7 +5,7 @@ use Rattle.dvg_gen.specs.Machine.{Machine}
 use Rattle.dvg_gen.specs.Saved.{IsWrappedState, wrapped_of}
 use Rattle.dvg_device.specs.States.{CanStand}
 use Rattle.dvg_device.specs.Wrappings.{wrapping_of}
-use Rattle.dvg_device.proofs.Parted.{can_stand, is_state}
+use Rattle.dvg_device.proofs.StateParts.{can_stand, is_state}
 use Rattle.dvg_device.proofs.waiting.Waiting.wrapping.Goals.{then-not-is_full-via-then-not-is_full, then-not-is_full-via-else-not-is_full+then-not-is_valid}
 use Rattle.dvg_device.proofs.waiting.Waiting.wrapping.Goals as goal
 

@@ -3,7 +3,7 @@ use Rattle.dvg_mem.specs.Areas.{other}
 use Rattle.dvg_driver.specs.Place.{Writing}
 use Rattle.dvg_driver.specs.Script.{word_zero}
 use Rattle.dvg_driver.specs.Stands.{Driving, WritesNoByte}
-use Rattle.dvg_driver.proofs.Standing.{ends_frame}
+use Rattle.dvg_driver.proofs.DriverAfterLife.{ends_frame}
 use Rattle.dvg_driver.proofs.driver.Driver.act.Goals as goal
 
 pub end_frame-requires : goal.end_frame-requires

@@ -1,7 +1,7 @@
 use Rattle.std.proofs.Common.{not, refl}
 use Rattle.dvg_driver.specs.declared.state.Phase.TheVariants as phase
 use Rattle.dvg_driver.proofs.Shapes.{rests_whole}
-use Rattle.dvg_driver.proofs.Standing.{at_phase, not_whole}
+use Rattle.dvg_driver.proofs.DriverAfterLife.{at_phase, not_whole}
 use Rattle.dvg_driver.proofs.driver.Driver.is_idle.Goals as goal
 
 pub returns-in-Resting : goal.returns-in-Resting

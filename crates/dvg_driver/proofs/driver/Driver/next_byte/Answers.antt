@@ -2,7 +2,7 @@ use Rattle.std.proofs.Common.{◌∙◌, ap, subst, sym}
 use Rattle.std.specs.Prelude.{IfSome, IsSomeAnd}
 use Rattle.dvg_driver.specs.Phases.{Allows, IsWritten, driving_of}
 use Rattle.dvg_driver.specs.Stands.{Driving, WritesNext}
-use Rattle.dvg_driver.proofs.Standing.{keeps_next, same_frame, takes_next}
+use Rattle.dvg_driver.proofs.DriverAfterLife.{keeps_next, same_frame, takes_next}
 use Rattle.dvg_driver.proofs.driver.Driver.next_byte.Goals as goal
 
 pub invariant_of-self : goal.invariant_of-self

@@ -1,7 +1,7 @@
 use Rattle.std.proofs.Common.{◌∷◌, subst, sym}
 use Rattle.dvg_driver.specs.Script.{Did}
 use Rattle.dvg_driver.specs.Stands.{Driving, StandsAfter, peeked_after}
-use Rattle.dvg_driver.proofs.Standing.{kept_frame, next_stands, no_frame, stands_life}
+use Rattle.dvg_driver.proofs.DriverAfterLife.{kept_frame, next_stands, no_frame, stands_life}
 use Rattle.dvg_driver.proofs.driver.Driver.tick.Goals as goal
 
 pub returns-in-Some-clause-scripted : goal.returns-in-Some-clause-scripted

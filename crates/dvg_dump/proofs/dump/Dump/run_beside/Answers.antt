@@ -4,7 +4,7 @@ use Rattle.dvg_code.specs.Words.{IsWord}
 use Rattle.dvg_gen.specs.Machine.{answer_by}
 use Rattle.dvg_dump.specs.Memory.{memory_of}
 use Rattle.dvg_dump.proofs.Silent.{all_fit, draws_nothing}
-use Rattle.dvg_dump.proofs.Stepping.{ends_with, followed_first, goes_further, next_step, no_end}
+use Rattle.dvg_dump.proofs.OneWordMore.{ends_with, followed_first, goes_further, next_step, no_end}
 use Rattle.dvg_dump.proofs.dump.Dump.run_beside.Goals as goal
 
 pub loop-words-init : goal.loop-words-init

@@ -1,5 +1,5 @@
 use Rattle.dvg_dump.specs.Memory.{memory_of}
-use Rattle.dvg_dump.proofs.Stepping.{Followed}
+use Rattle.dvg_dump.proofs.OneWordMore.{Followed}
 use Rattle.dvg_dump.proofs.dump.Dump.run_beside.Given as goal
 
 abbrev pub invariant-loop-words : goal.invariant-loop-words

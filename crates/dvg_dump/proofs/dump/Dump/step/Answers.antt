@@ -1,6 +1,6 @@
 use Rattle.std.proofs.Common.{ap, sym, ◌∙◌}
 use Rattle.dvg_dump.specs.Memory.{memory_of}
-use Rattle.dvg_dump.proofs.Stepping.{steps}
+use Rattle.dvg_dump.proofs.OneWordMore.{steps}
 use Rattle.dvg_dump.proofs.dump.Dump.step.Goals as goal
 
 pub returns-clause-steps : goal.returns-clause-steps

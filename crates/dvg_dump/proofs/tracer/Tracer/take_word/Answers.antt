@@ -1,6 +1,6 @@
 use Rattle.std.proofs.Common.{ap, sym, refl, ◌∙◌}
 use Rattle.dvg_dump.specs.Tracing.{Trail}
-use Rattle.dvg_dump.proofs.Telling.{held_word, recorded_word}
+use Rattle.dvg_dump.proofs.TracerTells.{held_word, recorded_word}
 use Rattle.dvg_dump.proofs.tracer.Tracer.take_word.Goals as goal
 
 pub returns-in-Some : goal.returns-in-Some

@@ -1,5 +1,5 @@
 use Rattle.std.proofs.Common.{refl}
-use Rattle.dvg_frame.proofs.Judged.{least_there, fine_there, cut_there}
+use Rattle.dvg_frame.proofs.FaultsAtPlaces.{least_there, fine_there, cut_there}
 use Rattle.dvg_frame.proofs.checking.look.look.Goals as goal
 
 pub returns-in-Some-fault_at : goal.returns-in-Some-fault_at

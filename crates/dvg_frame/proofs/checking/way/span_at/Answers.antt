@@ -2,7 +2,7 @@ use Rattle.std.proofs.Common.{◌+◌, refl}
 use Rattle.dvg_frame.specs.Steps.{op_act}
 use Rattle.dvg_frame.specs.own.Ways.{way}
 use Rattle.dvg_frame.specs.declared.place.Place.TheVariants.{InFrame}
-use Rattle.dvg_frame.proofs.Judged.{in_list, stands_there}
+use Rattle.dvg_frame.proofs.FaultsAtPlaces.{in_list, stands_there}
 use Rattle.dvg_frame.proofs.Sizes.{read_op}
 use Rattle.dvg_frame.proofs.checking.way.span_at.Goals as goal
 

@@ -1,4 +1,4 @@
-use Rattle.dvg_frame.proofs.Judged.{in_list, stands_there}
+use Rattle.dvg_frame.proofs.FaultsAtPlaces.{in_list, stands_there}
 use Rattle.dvg_frame.proofs.Sizes.{read_op}
 use Rattle.dvg_frame.proofs.checking.way.way_at.Goals as goal
 

@@ -3,7 +3,7 @@ use Rattle.std.specs.Prelude.{Ok}
 use Rattle.dvg_code.specs.declared.memory.OutOfMemory.{OutOfMemory}
 use Rattle.dvg_gen.specs.Bytes.{met, Whole}
 use Rattle.dvg_gen.specs.Machine.{answer_by}
-use Rattle.dvg_gen.proofs.Standing.{claim_met, claim_hole, met_hole}
+use Rattle.dvg_gen.proofs.GeneratorAfterHistory.{claim_met, claim_hole, met_hole}
 use Rattle.dvg_gen.proofs.generator.Generator.feed.Goals as goal
 
 pub returns-in_default-clause-answers : goal.returns-in_default-clause-answers

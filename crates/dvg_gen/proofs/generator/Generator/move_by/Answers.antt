@@ -2,7 +2,7 @@ use Rattle.std.proofs.Common.{◌≡◌, ◌*◌, ◌+◌, None, Some, ap, sym, 
 use Rattle.std.specs.Prelude.{option_to_list}
 use Rattle.dvg_gen.specs.Bytes.{met, Whole}
 use Rattle.dvg_gen.proofs.Moves.{adds_moves}
-use Rattle.dvg_gen.proofs.Standing.{met_hole}
+use Rattle.dvg_gen.proofs.GeneratorAfterHistory.{met_hole}
 use Rattle.dvg_gen.proofs.generator.Generator.move_by.Goals as goal
 
 pub returns-in_default-clause-moves : goal.returns-in_default-clause-moves

@@ -1,6 +1,6 @@
 use Rattle.std.proofs.Common.{ap, ◌∙◌, refl}
 use Rattle.std.specs.Prelude.{reverse}
-use Rattle.dvg_gen.proofs.Standing.{stands_start}
+use Rattle.dvg_gen.proofs.GeneratorAfterHistory.{stands_start}
 use Rattle.dvg_gen.proofs.generator.Generator.start.Goals as goal
 
 pub returns-clause-stands : goal.returns-clause-stands

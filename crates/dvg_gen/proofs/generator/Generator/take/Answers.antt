@@ -6,7 +6,7 @@ use Rattle.dvg_code.specs.Spelling.{halt, jsrl, rtsl, jmpl}
 use Rattle.dvg_gen.specs.Completing.{Completes}
 use Rattle.dvg_gen.specs.Machine.{Machine}
 use Rattle.dvg_gen.specs.Run.{on}
-use Rattle.dvg_gen.proofs.Standing.{claim_alone, claim_first, claim_result, goes_result, jumped, picture_result, none_left_result}
+use Rattle.dvg_gen.proofs.GeneratorAfterHistory.{claim_alone, claim_first, claim_result, goes_result, jumped, picture_result, none_left_result}
 use Rattle.dvg_gen.proofs.generator.Generator.take.Goals as goal
 
 pub returns-then-first-lt40960-clause-answers : goal.returns-then-first-lt40960-clause-answers

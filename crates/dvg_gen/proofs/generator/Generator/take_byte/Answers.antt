@@ -1,7 +1,7 @@
 use Rattle.std.proofs.Common.{subst}
 use Rattle.dvg_gen.specs.Bytes.{met}
 use Rattle.dvg_gen.specs.Machine.{Answers, answer_by}
-use Rattle.dvg_gen.proofs.Standing.{handed_out}
+use Rattle.dvg_gen.proofs.GeneratorAfterHistory.{handed_out}
 use Rattle.dvg_gen.proofs.generator.Generator.take_byte.Goals as goal
 
 pub returns-in-Ok-Done-clause-answers : goal.returns-in-Ok-Done-clause-answers

@@ -1,5 +1,5 @@
 use Rattle.std.proofs.Common.{ap, sym, ◌∙◌}
-use Rattle.dvg_gen.proofs.Turns.{wrapped_fed, wrapped_turn}
+use Rattle.dvg_gen.proofs.WrapsAfterHistory.{wrapped_fed, wrapped_turn}
 use Rattle.dvg_gen.proofs.wrapping.WrappingGenerator.feed.Goals as goal
 
 pub returns-in-Some-clause-answers : goal.returns-in-Some-clause-answers

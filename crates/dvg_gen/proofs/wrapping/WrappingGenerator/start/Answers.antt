@@ -1,6 +1,6 @@
 use Rattle.std.proofs.Common.{ap}
 use Rattle.dvg_gen.specs.Wrapping.{starts}
-use Rattle.dvg_gen.proofs.Turns.{wrapped_told}
+use Rattle.dvg_gen.proofs.WrapsAfterHistory.{wrapped_told}
 use Rattle.dvg_gen.proofs.wrapping.WrappingGenerator.start.Goals as goal
 
 pub returns-clause-stands : goal.returns-clause-stands

@@ -1,6 +1,6 @@
 use Rattle.std.proofs.Common.{sym, subst}
 use Rattle.dvg_mem.specs.Memory.{IsImage}
-use Rattle.dvg_mem.proofs.Filled.{filled_image}
+use Rattle.dvg_mem.proofs.OneByteThroughout.{filled_image}
 use Rattle.dvg_mem.proofs.flat.FlatStore.load.Goals as goal
 
 pub invariant_of-self : goal.invariant_of-self

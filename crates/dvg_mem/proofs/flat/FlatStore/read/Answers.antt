@@ -1,5 +1,5 @@
 use Rattle.std.proofs.Common.{arith}
-use Rattle.dvg_mem.proofs.Filled.{read_everywhere}
+use Rattle.dvg_mem.proofs.OneByteThroughout.{read_everywhere}
 use Rattle.dvg_mem.proofs.flat.FlatStore.read.Goals as goal
 
 pub returns-in-Some-clause-byte : goal.returns-in-Some-clause-byte

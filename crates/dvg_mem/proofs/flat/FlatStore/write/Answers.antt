@@ -1,5 +1,5 @@
 use Rattle.std.proofs.Common.{◌≡◌, length, rules}
-use Rattle.dvg_mem.proofs.Filled.{filled_up}
+use Rattle.dvg_mem.proofs.OneByteThroughout.{filled_up}
 use Rattle.dvg_mem.proofs.flat.FlatStore.write.Goals as goal
 
 pub returns-in-Some-clause-content : goal.returns-in-Some-clause-content

@@ -4,7 +4,7 @@ use Rattle.dvg_log.specs.declared.entry.Entry.TheVariants.{Done}
 use Rattle.dvg_log.specs.declared.event.Event.TheVariants.{Fetch}
 use Rattle.dvg_log.specs.Log.{◌⟼◌}
 use Rattle.dvg_moment.proofs.OfOneMoment.{told_of_one_moment}
-use Rattle.dvg_moment.proofs.Standing.{done_left, done_answer}
+use Rattle.dvg_moment.proofs.JudgeAfterLog.{done_left, done_answer}
 use Rattle.dvg_moment.proofs.judge.MomentJudge.done.Goals as goal
 
 pub returns-clause-stands : goal.returns-clause-stands

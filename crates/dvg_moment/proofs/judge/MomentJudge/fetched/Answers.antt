@@ -1,4 +1,4 @@
-use Rattle.dvg_moment.proofs.Standing.{fetched_left}
+use Rattle.dvg_moment.proofs.JudgeAfterLog.{fetched_left}
 use Rattle.dvg_moment.proofs.judge.MomentJudge.fetched.Goals as goal
 
 pub returns : goal.returns

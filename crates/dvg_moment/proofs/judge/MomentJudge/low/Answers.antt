@@ -1,4 +1,4 @@
-use Rattle.dvg_moment.proofs.Standing.{low_left}
+use Rattle.dvg_moment.proofs.JudgeAfterLog.{low_left}
 use Rattle.dvg_moment.proofs.judge.MomentJudge.low.Goals as goal
 
 pub returns : goal.returns

@@ -4,7 +4,7 @@ use Rattle.dvg_log.specs.declared.event.Event.TheVariants.{ResetAll}
 use Rattle.dvg_log.specs.Log.{◌⟼◌}
 use Rattle.dvg_moment.specs.Judging.{StandsAfter}
 use Rattle.dvg_moment.specs.own.Steps.{after_end}
-use Rattle.dvg_moment.proofs.Standing.{reset_stands}
+use Rattle.dvg_moment.proofs.JudgeAfterLog.{reset_stands}
 use Rattle.dvg_moment.proofs.judge.MomentJudge.reset.Goals as goal
 
 pub returns : goal.returns

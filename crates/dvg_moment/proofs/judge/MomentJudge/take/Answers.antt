@@ -5,7 +5,7 @@ use Rattle.dvg_log.specs.Events.{happening_of}
 use Rattle.dvg_log.specs.declared.entry.Entry.TheVariants.{Started}
 use Rattle.dvg_log.specs.Log.{◌⟼◌}
 use Rattle.dvg_moment.specs.Judging.{StandsAfter}
-use Rattle.dvg_moment.proofs.Taking.{event_stands, begins, begins_not}
+use Rattle.dvg_moment.proofs.LinesByEntry.{event_stands, begins, begins_not}
 use Rattle.dvg_moment.proofs.judge.MomentJudge.take.Goals as goal
 use Rattle.dvg_moment.proofs.judge.MomentJudge.take.Goals.{in-Started, in_default}
 

@@ -6,7 +6,7 @@ use Rattle.dvg_log.specs.declared.event.Event.TheVariants.{Fetch, Strobe, Tick}
 use Rattle.dvg_log.specs.Log.{◌⟼◌}
 use Rattle.dvg_moment.specs.Moment.{IsOfOneMoment, told}
 use Rattle.dvg_moment.specs.Judging.{StandsAfter}
-use Rattle.dvg_moment.proofs.Taking.{as_tick, rest_stands, not_judged, broke_stands, done_same}
+use Rattle.dvg_moment.proofs.LinesByEntry.{as_tick, rest_stands, not_judged, broke_stands, done_same}
 use Rattle.dvg_moment.proofs.judge.MomentJudge.take_entry.Goals as goal
 
 pub returns-in-Started-clause-stands : goal.returns-in-Started-clause-stands

@@ -1,5 +1,5 @@
 use Rattle.std.proofs.Common.{arith}
-use Rattle.dvg_moment.proofs.Standing.{beyond_stands, written_left}
+use Rattle.dvg_moment.proofs.JudgeAfterLog.{beyond_stands, written_left}
 use Rattle.dvg_moment.proofs.judge.MomentJudge.wrote.Goals as goal
 
 pub returns-then-at-lt-MEMORY_BYTES : goal.returns-then-at-lt-MEMORY_BYTES

@@ -2,7 +2,7 @@ use Rattle.std.proofs.Common.{IfOk, subst}
 use Rattle.dvg_dump.specs.Endings.{end_of}
 use Rattle.dvg_picture.specs.Pictures.{IsRunOf}
 use Rattle.dvg_picture.specs.Texts.{traces}
-use Rattle.dvg_picture.proofs.Shown.{finds}
+use Rattle.dvg_picture.proofs.PictureOfInput.{finds}
 use Rattle.dvg_picture.proofs.engine.PictureEngineEngine.find.Goals as goal
 
 pub returns : goal.returns

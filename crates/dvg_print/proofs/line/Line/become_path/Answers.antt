@@ -4,7 +4,7 @@ use mir.Val.{SFits}
 use mir.Syntax.{w32}
 use Rattle.dvg_print.specs.Svg as spec
 use Rattle.dvg_print.specs.Svg.{pair_text}
-use Rattle.dvg_print.proofs.Joined.{joined, pair_is}
+use Rattle.dvg_print.proofs.GrownLine.{joined, pair_is}
 use Rattle.dvg_print.proofs.line.Line.become_path.Goals as goal
 
 pub returns : goal.returns

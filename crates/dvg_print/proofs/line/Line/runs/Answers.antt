@@ -1,6 +1,6 @@
 use Rattle.std.proofs.Common.{codes, decimal, ◌∷◌, []}
 use Rattle.dvg_print.specs.Lines.{spaced}
-use Rattle.dvg_print.proofs.Joined.{four_parts}
+use Rattle.dvg_print.proofs.GrownLine.{four_parts}
 use Rattle.dvg_print.proofs.line.Line.runs.Goals as goal
 
 pub returns-clause-text : goal.returns-clause-text

@@ -1,4 +1,4 @@
-use Rattle.dvg_tool.proofs.Whole.{finds_bound}
+use Rattle.dvg_tool.proofs.PrefixDecides.{finds_bound}
 use Rattle.dvg_tool.proofs.checks.BoundEngineEngine.find.Goals as goal
 
 pub returns : goal.returns

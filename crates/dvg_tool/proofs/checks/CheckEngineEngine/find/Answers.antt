@@ -2,7 +2,7 @@ use Rattle.std.proofs.Common.{rules, ap, subst, sym, ◌∙◌, Err}
 use Rattle.std.proofs.lemmas.Result.{err_from_is_err_and}
 use Rattle.dvg_print.specs.Verdicts.{IsVerdict}
 use Rattle.dvg_tool.specs.Checks.{IsJudgingFault, Judges, JudgesBound}
-use Rattle.dvg_tool.proofs.Whole.{judged, unbounded, unjudged}
+use Rattle.dvg_tool.proofs.PrefixDecides.{judged, unbounded, unjudged}
 use Rattle.dvg_tool.proofs.checks.CheckEngineEngine.find.Goals as goal
 
 pub returns-in_err-bounded : goal.returns-in_err-bounded

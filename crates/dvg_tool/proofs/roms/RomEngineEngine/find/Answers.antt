@@ -1,4 +1,4 @@
-use Rattle.dvg_tool.proofs.Whole.{finds_rom}
+use Rattle.dvg_tool.proofs.PrefixDecides.{finds_rom}
 use Rattle.dvg_tool.proofs.roms.RomEngineEngine.find.Goals as goal
 
 pub returns : goal.returns

@@ -1,4 +1,4 @@
-use Rattle.dvg_world.proofs.Owning.{undrawn_as}
+use Rattle.dvg_world.proofs.EntriesDrew.{undrawn_as}
 use Rattle.dvg_world.proofs.logging.EntriesKeptAllocKeeper.keep_alike.Goals as goal
 
 pub returns-clause-kept : goal.returns-clause-kept

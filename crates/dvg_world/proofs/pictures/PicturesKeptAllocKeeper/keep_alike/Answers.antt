@@ -1,5 +1,5 @@
 use Rattle.std.proofs.Common.{sym, ◌∙◌}
-use Rattle.dvg_world.proofs.Owning.{undrawn_as}
+use Rattle.dvg_world.proofs.EntriesDrew.{undrawn_as}
 use Rattle.dvg_world.proofs.PicturesKept.{pictures_alike}
 use Rattle.dvg_world.proofs.pictures.PicturesKeptAllocKeeper.keep_alike.Goals as goal
 

@@ -2,7 +2,7 @@ use Rattle.std.proofs.Common.{◌≡◌, [], ◌∷◌, ◌++◌, append_assoc, 
 use Rattle.std.proofs.lemmas.List.{map-append, replicate-append-replicate}
 use Rattle.dvg_log.specs.Entries.{map_entry, shown_of}
 use Rattle.dvg_world.proofs.EntriesKept.{lines_alike}
-use Rattle.dvg_world.proofs.Owning.{owned_none, undrawn_as}
+use Rattle.dvg_world.proofs.EntriesDrew.{owned_none, undrawn_as}
 use Rattle.dvg_world.proofs.runs.OwnEntriesAllocKeeper.keep_alike.Goals as goal
 
 pub loop-again-preserved : goal.loop-again-preserved

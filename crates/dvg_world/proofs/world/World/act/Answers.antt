@@ -1,6 +1,6 @@
 use Rattle.dvg_log.specs.declared.event.Event.TheVariants.{Tick}
 use Rattle.dvg_log.specs.declared.entry.Entry.TheVariants.{Acted}
-use Rattle.dvg_world.proofs.Standing.{adds_between, keeps_headline, same_rom, ticks}
+use Rattle.dvg_world.proofs.EventsAddLines.{adds_between, keeps_headline, same_rom, ticks}
 use Rattle.dvg_world.proofs.world.World.act.Goals as goal
 
 pub returns-clause-stands : goal.returns-clause-stands

@@ -1,8 +1,8 @@
 use Rattle.std.proofs.Common.{ap, subst, sym, ◌∙◌}
 use Rattle.dvg_world.specs.Standing.{AddsLine, picture_left, shown_in}
 use Rattle.dvg_world.specs.Wanting.{TakesMemory}
-use Rattle.dvg_world.proofs.Owning.{left_same, left_shown}
-use Rattle.dvg_world.proofs.Standing.{adds_as, keeps_headline, then_keeps}
+use Rattle.dvg_world.proofs.EntriesDrew.{left_same, left_shown}
+use Rattle.dvg_world.proofs.EventsAddLines.{adds_as, keeps_headline, then_keeps}
 use Rattle.dvg_world.proofs.world.World.apply.Goals as goal
 
 pub returns-in-Ok-clause-stands : goal.returns-in-Ok-clause-stands

@@ -6,7 +6,7 @@ use Rattle.dvg_log.specs.declared.event.Event.TheVariants.{Fetch}
 use Rattle.dvg_log.specs.declared.entry.Entry.TheVariants.{Still}
 use Rattle.dvg_world.specs.Standing.{ChangesNothing, DrawsNow}
 use Rattle.dvg_world.proofs.Fetching.{fetch_changes, map_entry_by, picture_stays}
-use Rattle.dvg_world.proofs.Standing.{adds_as, adds_between, draws_now, fetch_still, fetch_takes, keeps_headline, on_err, open_of}
+use Rattle.dvg_world.proofs.EventsAddLines.{adds_as, adds_between, draws_now, fetch_still, fetch_takes, keeps_headline, on_err, open_of}
 use Rattle.dvg_world.proofs.world.World.fetch.Goals as goal
 
 pub returns-in_default-clause-stands : goal.returns-in_default-clause-stands

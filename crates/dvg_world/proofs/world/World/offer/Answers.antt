@@ -1,7 +1,7 @@
 use Rattle.std.proofs.Common.{subst}
 use Rattle.dvg_log.specs.declared.event.Event.TheVariants.{Offer}
 use Rattle.dvg_world.specs.Standing.{AddsLine, shown_in}
-use Rattle.dvg_world.proofs.Standing.{keeps_headline}
+use Rattle.dvg_world.proofs.EventsAddLines.{keeps_headline}
 use Rattle.dvg_world.proofs.world.World.offer.Goals as goal
 
 pub returns-clause-stands : goal.returns-clause-stands

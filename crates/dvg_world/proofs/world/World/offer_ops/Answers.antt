@@ -1,6 +1,6 @@
 use Rattle.std.proofs.Common.{refl, ◌∙◌}
 use Rattle.dvg_log.specs.declared.event.Event.TheVariants.{Offer}
-use Rattle.dvg_world.proofs.Standing.{adds_between, offer_same, offers, same_parts, same_rom}
+use Rattle.dvg_world.proofs.EventsAddLines.{adds_between, offer_same, offers, same_parts, same_rom}
 use Rattle.dvg_world.proofs.world.World.offer_ops.Goals as goal
 
 pub returns-clause-stands : goal.returns-clause-stands

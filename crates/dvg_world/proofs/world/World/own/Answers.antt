@@ -2,7 +2,7 @@ use Rattle.std.proofs.Common.{ap, ◌∙◌, subst}
 use Rattle.dvg_log.specs.Entries.{shown_of}
 use Rattle.dvg_world.specs.Standing.{shown_in}
 use Rattle.dvg_world.specs.own.Stepping.{IsDrawnBy}
-use Rattle.dvg_world.proofs.Owning.{owned_none, owned_some}
+use Rattle.dvg_world.proofs.EntriesDrew.{owned_none, owned_some}
 use Rattle.dvg_world.proofs.world.World.own.Goals as goal
 
 pub returns-clause-shown : goal.returns-clause-shown

@@ -1,6 +1,6 @@
 use Rattle.std.proofs.Common.{sym, subst}
 use Rattle.dvg_mem.specs.Memory.{IsRom}
-use Rattle.dvg_world.proofs.Standing.{new_world}
+use Rattle.dvg_world.proofs.EventsAddLines.{new_world}
 use Rattle.dvg_world.proofs.world.World.power_up.Goals as goal
 
 pub returns-clause-stands : goal.returns-clause-stands

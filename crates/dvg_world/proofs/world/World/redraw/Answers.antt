@@ -1,6 +1,6 @@
 use Rattle.std.proofs.Common.{refl, ◌∙◌}
 use Rattle.dvg_log.specs.declared.event.Event.TheVariants.{Redraw}
-use Rattle.dvg_world.proofs.Standing.{adds_between, keeps_headline, redraw_same, redraws, same_parts, same_rom}
+use Rattle.dvg_world.proofs.EventsAddLines.{adds_between, keeps_headline, redraw_same, redraws, same_parts, same_rom}
 use Rattle.dvg_world.proofs.world.World.redraw.Goals as goal
 
 pub returns-clause-stands : goal.returns-clause-stands

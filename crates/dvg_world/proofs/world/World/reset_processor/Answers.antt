@@ -1,7 +1,7 @@
 use Rattle.std.proofs.Common.{refl}
 use Rattle.dvg_log.specs.declared.event.Event.TheVariants.{ResetCpu}
 use Rattle.dvg_log.specs.declared.entry.Entry.TheVariants.{Cleared}
-use Rattle.dvg_world.proofs.Standing.{adds_between, keeps_headline, reset_cpu, same_rom}
+use Rattle.dvg_world.proofs.EventsAddLines.{adds_between, keeps_headline, reset_cpu, same_rom}
 use Rattle.dvg_world.proofs.world.World.reset_processor.Goals as goal
 
 pub returns-clause-stands : goal.returns-clause-stands

@@ -1,7 +1,7 @@
 use Rattle.std.proofs.Common.{refl, sym}
 use Rattle.dvg_log.specs.declared.event.Event.TheVariants.{Strobe}
 use Rattle.dvg_log.specs.declared.entry.Entry.TheVariants.{NoStrobe, Started}
-use Rattle.dvg_world.proofs.Standing.{adds_between, keeps_headline, strobe_lost, strobe_starts}
+use Rattle.dvg_world.proofs.EventsAddLines.{adds_between, keeps_headline, strobe_lost, strobe_starts}
 use Rattle.dvg_world.proofs.world.World.strobe.Goals as goal
 
 pub returns-then-not-self-clause-stands : goal.returns-then-not-self-clause-stands

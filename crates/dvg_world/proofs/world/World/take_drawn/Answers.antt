@@ -1,5 +1,5 @@
 use Rattle.std.proofs.Common.{Some, ap, sym}
-use Rattle.dvg_world.proofs.Owning.{drew_other, left_other}
+use Rattle.dvg_world.proofs.EntriesDrew.{drew_other, left_other}
 use Rattle.dvg_world.proofs.world.World.take_drawn.Goals as goal
 
 pub returns-in-Done-clause-drawn : goal.returns-in-Done-clause-drawn

@@ -1,5 +1,5 @@
 use Rattle.std.proofs.Common.{refl}
-use Rattle.dvg_world.proofs.Standing.{keeps_between, keeps_machine}
+use Rattle.dvg_world.proofs.EventsAddLines.{keeps_between, keeps_machine}
 use Rattle.dvg_world.proofs.world.World.take_picture.Goals as goal
 
 pub returns-clause-stands : goal.returns-clause-stands
