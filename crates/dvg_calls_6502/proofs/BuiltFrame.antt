@@ -14,7 +14,7 @@ use Rattle.dvg_frame.specs.declared.place.Place.TheVariants.{InFrame, InRom}
 use Rattle.dvg_frame.specs.declared.fault.FrameFault.{FrameFault}
 use Rattle.dvg_frame.specs.Layout.{size}
 use Rattle.dvg_frame.specs.Steps.{Stands, in_frame, in_rom, Bad, last, target, second, past, deep, bare, Leads, on, jump}
-use Rattle.dvg_frame.specs.Steps.{call, back, Reached, begin, step, Closed, Begins, IsFine, op_act, GoesPast, Names, Misses}
+use Rattle.dvg_frame.specs.Steps.{call, back, Reached, begin, step, Closed, IsWellFormed, IsFine, op_act, GoesPast, Names, Misses}
 use Rattle.dvg_frame.specs.Steps.{misses, labs}
 use Rattle.dvg_frame.specs.Loops.{HasLoop, Walks, none, more}
 use Rattle.dvg_frame.specs.Faults.{Accepts}
@@ -127,7 +127,7 @@ module _ (R : List ℕ) (x y scale : ℕ) (ops : List OpKind) (all : All (IsPut 
   names i Return q is named = absurd (kind i Return is)
   names i _ q is named = absurd named
 
-  begins : Begins F
+  begins : IsWellFormed F
   begins = record {
     begins = labs;
     fits = fits;

@@ -10,7 +10,7 @@ use Rattle.dvg_frame.specs.declared.op.OpKind.TheVariants.{Draw, CallRom, JumpRo
 use Rattle.dvg_frame.specs.declared.place.Place.TheVariants.{InFrame}
 use Rattle.dvg_frame.specs.Layout.{at, op_words, size}
 use Rattle.dvg_frame.specs.Ops.{IsOp}
-use Rattle.dvg_frame.specs.Steps.{Names, op_act, misses, Begins}
+use Rattle.dvg_frame.specs.Steps.{Names, op_act, misses, IsWellFormed}
 use Rattle.dvg_frame.proofs.Sizes.{size-take_le, size-take_more, some_words}
 use Rattle.dvg_calls_6502.specs.Tables.{IsExpressible, AreExpressible, NamesRom, CheckedExpressible}
 
@@ -28,7 +28,7 @@ low_place F j within fits =
     let some = some_words here.0 in
     omega (arith, more, all, some, fits)
 
-module _ (F : List OpKind) (begins : Begins F) where
+module _ (F : List OpKind) (begins : IsWellFormed F) where
   -- what an operation names of the frame is one of its operations
   in_frame : (i j : ℕ) (op : OpKind) → slice_get F i ≡ Some op → Names (op_act op) (InFrame j) → j < length F
   in_frame i j op is names = by (nat_le (length F) j) refl

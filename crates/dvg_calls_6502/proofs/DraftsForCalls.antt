@@ -20,7 +20,7 @@ use Rattle.dvg_calls_6502.specs.Calls.{Routine, Reset, Tick, Ticks, Run, Offer, 
 use Rattle.dvg_calls_6502.specs.Calls.{is_over, answer, finds_busy, is_leaving, is_taken, is_offered, entry, bounds, put_on, frame_of, Brings}
 use Rattle.dvg_calls_6502.specs.Calls.{IsLeftAlone, IsRoomFor, Follows, IsSession}
 use Rattle.dvg_calls_6502.specs.Build.{IsPut}
-use Rattle.dvg_calls_6502.specs.Programs.{IsLabs, Tells, renamed, with_drafts, AreBuilt}
+use Rattle.dvg_calls_6502.specs.Programs.{IsLabs, CallBrings, renamed, with_drafts, AreBuilt}
 use Rattle.dvg_calls_6502.proofs.Built.{holds_in}
 use Rattle.dvg_calls_6502.proofs.BuildCalls.{puts_room, puts_over}
 use Rattle.dvg_calls_6502.proofs.Sessions.{came_of, before_call}
@@ -157,7 +157,7 @@ vector_op R scale dx dy z low some = (in_range (is_vector scale dx dy) refl some
     in_range false is some = absurd (omega (arith, some))
 
 -- what a part puts is the words of an operation
-told_op : (R : List ℕ) (part : Part) (from : Cpu) (frame : ℕ × List ℕ) → Tells R (Puts part) from (Some frame)
+told_op : (R : List ℕ) (part : Part) (from : Cpu) (frame : ℕ × List ℕ) → CallBrings R (Puts part) from (Some frame)
     → IsRoomFor part from frame.0
     → (op : OpKind) × (put_by part from ≡ table_of (op ∷ [])) × IsPut R op × IsOp op × (frame.0 ≡ 0 → IsLabs op)
 told_op R Vector from frame tells room =
@@ -183,7 +183,7 @@ module _ (R : List ℕ) (part : Part) (from : Cpu) (steps : ℕ) (others : ℕ �
   width = length (put_by part from)
 
   module _ (alone : IsLeftAlone putting (older ∷ olds)) (follows : Follows putting (older ∷ olds))
-      (tells : Tells R (Puts part) from (frame_of (older ∷ olds))) (finds : Finds R older olds) where
+      (tells : CallBrings R (Puts part) from (frame_of (older ∷ olds))) (finds : Finds R older olds) where
     -- with these drafts for those before it
     module _ (next : List OpKind) (found : Found R next older olds) where
       abbrev before : List Call
@@ -212,7 +212,7 @@ module _ (R : List ℕ) (part : Part) (from : Cpu) (steps : ℕ) (others : ℕ �
     module _ (frame : ℕ × List ℕ) (is : frame_of (older ∷ olds) ≡ Some frame) where
       tells_now : IsRoomFor part from frame.0 → (op : OpKind) × (put_by part from ≡ table_of (op ∷ [])) × IsPut R op
           × IsOp op × (frame.0 ≡ 0 → IsLabs op)
-      tells_now = told_op R part from frame (subst (λ f. Tells R (Puts part) from f) is tells)
+      tells_now = told_op R part from frame (subst (λ f. CallBrings R (Puts part) from f) is tells)
 
       -- there is room
       module _ (room : IsRoomFor part from frame.0) where

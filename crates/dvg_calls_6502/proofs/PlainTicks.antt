@@ -10,7 +10,7 @@ use Rattle.dvg_driver.specs.declared.action.Action.{Action}
 use Rattle.dvg_driver.specs.declared.action.Action.TheVariants.{Peek, Wrote, Read, Sent, Idle}
 use Rattle.dvg_driver.specs.Script.{Item, Did, word_zero}
 use Rattle.dvg_driver.specs.Place.{Place, Start, Booting, Resting, Writing, Waiting, Sending, next_place, place_of_life}
-use Rattle.dvg_driver.specs.Stands.{Stage, StandsAfter, Tells, peeked_after}
+use Rattle.dvg_driver.specs.Stands.{ShowsFlag, Stage, StandsAfter, peeked_after}
 use Rattle.dvg_calls_6502.specs.Processor.{Cpu, Access, Reads, Writes, put, run}
 use Rattle.dvg_calls_6502.specs.Board.{IsLoaded, seen, is_own, tells_halted}
 use Rattle.dvg_calls_6502.specs.Amid.{is_kept, is_code, are_steady, all_in}
@@ -39,7 +39,7 @@ pub record Acts (q : ℕ) (from : Cpu) (begin stop peeked : ℕ) (life : List It
   pub stack : (run q steps from).s ≡ from.s
   pub accesses : seen (run q steps from).log ≡ events ++ seen from.log
   pub shows : Shows action events
-  pub tells : Tells action (tells_halted (from.flags 0))
+  pub tells : ShowsFlag action (tells_halted (from.flags 0))
   pub stands : StandsAfter new (peeked_after action (from.mem 0x4001) peeked) (Did action ∷ life)
   pub holds : Holds (run q steps from).mem begin stop new
   pub loaded : IsLoaded (run q steps from).mem
@@ -52,7 +52,7 @@ pub close : (q : ℕ) (from : Cpu) (s : ℕ) (mem : ℕ → ℕ) (events : List 
     (begin stop peeked : ℕ) (life : List Item) {reads : List ℕ}
     → ((tables : ℕ → Bool) → Covers tables begin stop → all_in tables reads ≡ true)
     → Ends q from s mem (events ++ seen from.log) reads → s ≡ from.s
-    → Shows action events → Tells action (tells_halted (from.flags 0))
+    → Shows action events → ShowsFlag action (tells_halted (from.flags 0))
     → StandsAfter new (peeked_after action (from.mem 0x4001) peeked) (Did action ∷ life)
     → Holds mem begin stop new → IsLoaded mem
     → ((b : ℕ) → is_own b ≡ false → b ≢ 0x3000 → mem b ≡ acted action from.mem b) → IsInRam action

@@ -12,7 +12,7 @@ use Rattle.dvg_calls_6502.specs.Routines.{Enters}
 use Rattle.dvg_calls_6502.specs.Calls.{Routine, Reset, Tick, Ticks, Run, Offer, Redraw, Open, Puts, Close, Call}
 use Rattle.dvg_calls_6502.specs.Calls.{is_over, is_taken, entry, bounds, taken_bounds, frame_of, frame_after, Brings}
 use Rattle.dvg_calls_6502.specs.Calls.{IsLeftAlone, Follows, UnlessReset, IsSessionBy, IsSession, TicksReturn, RunSpares, is_ticked, call_of}
-use Rattle.dvg_calls_6502.specs.Programs.{Tells, renamed, with_drafts, BuildsOnly, AreBuilt, Hindsight}
+use Rattle.dvg_calls_6502.specs.Programs.{CallBrings, renamed, with_drafts, BuildsOnly, AreBuilt, Hindsight}
 use Rattle.dvg_calls_6502.proofs.TicksRun.{Leaves, ticks_go, ticks_return}
 use Rattle.dvg_calls_6502.proofs.Built.{holds_in, holds_goes, run_goes_on, run_leaves}
 use Rattle.dvg_calls_6502.proofs.BuildCalls.{close_some}
@@ -165,7 +165,7 @@ module _ (R : List ℕ) (from : Cpu) (steps : ℕ) (others : ℕ → ℕ → ℕ
   closing = record { routine = Close; from = from; steps = steps; others = others }
 
   module _ (alone : IsLeftAlone closing (older ∷ olds)) (follows : Follows closing (older ∷ olds))
-      (tells : Tells R Close from (frame_of (older ∷ olds))) (finds : Finds R older olds) where
+      (tells : CallBrings R Close from (frame_of (older ∷ olds))) (finds : Finds R older olds) where
     module _ (next : List OpKind) (found : Found R next older olds) where
       abbrev earlier : List Call
       earlier = call_with older found.draft ∷ with_drafts olds found.drafts
@@ -195,7 +195,7 @@ module _ (R : List ℕ) (from : Cpu) (steps : ℕ) (others : ℕ → ℕ → ℕ
       halt_may = subst (λ f. MayCome R f (Stop ∷ [])) (sym is) (record {
         ends = tt;
         ops = only_halt;
-        labs = λ none. absurd (let some = subst (λ f. Tells R Close from f) is tells in omega (arith, some, none));
+        labs = λ none. absurd (let some = subst (λ f. CallBrings R Close from f) is tells in omega (arith, some, none));
         fits = let room = subst HasRoom is finds.room in omega (arith, room);
       })
 
@@ -299,7 +299,7 @@ module _ (R : List ℕ) (from : Cpu) (steps : ℕ) (others : ℕ → ℕ → ℕ
       (quiet_finds R (made_by routine) first.0 first.1 enters
       (subst (λ l. IsLeftAlone (made_by routine) l) first.2 alone) first.3 first.4 keeps stays brings builds unless)
 
-  one_finds : (routine : Routine) → Enters from (entry routine) → Tells R routine from (frame_of calls)
+  one_finds : (routine : Routine) → Enters from (entry routine) → CallBrings R routine from (frame_of calls)
       → IsLeftAlone (made_by routine) calls → UnlessReset routine (Prior R (made_by routine) calls)
       → Finds R (made_by routine) calls
   one_finds Reset enters tells alone first = reset_finds R from steps others calls enters alone
@@ -321,20 +321,20 @@ module _ (R : List ℕ) (from : Cpu) (steps : ℕ) (others : ℕ → ℕ → ℕ
       subst (λ l. Finds R (made_by (Puts part)) l) (sym first.2)
       (puts_find R part from steps others first.0 first.1 enters
       (subst (λ l. IsLeftAlone (made_by (Puts part)) l) first.2 alone) first.3
-      (subst (λ l. Tells R (Puts part) from (frame_of l)) first.2 tells) first.4)
+      (subst (λ l. CallBrings R (Puts part) from (frame_of l)) first.2 tells) first.4)
   one_finds Close enters tells alone first =
       subst (λ l. Finds R (made_by Close) l) (sym first.2)
       (close_finds R from steps others first.0 first.1 enters
       (subst (λ l. IsLeftAlone (made_by Close) l) first.2 alone) first.3
-      (subst (λ l. Tells R Close from (frame_of l)) first.2 tells) first.4)
+      (subst (λ l. CallBrings R Close from (frame_of l)) first.2 tells) first.4)
 
-all_find : (R : List ℕ) (call : Call) (calls : List Call) → IsSessionBy (Tells R) (call ∷ calls) → Finds R call calls
+all_find : (R : List ℕ) (call : Call) (calls : List Call) → IsSessionBy (CallBrings R) (call ∷ calls) → Finds R call calls
 all_find R call [] session =
     one_finds R call.from call.steps call.others [] call.routine session.0 session.1 session.2
-    (unless_map call.routine (⊥ × IsSessionBy (Tells R) []) (Prior R call []) (λ none. absurd none.0) session.3)
+    (unless_map call.routine (⊥ × IsSessionBy (CallBrings R) []) (Prior R call []) (λ none. absurd none.0) session.3)
 all_find R call (older ∷ olds) session =
     one_finds R call.from call.steps call.others (older ∷ olds) call.routine session.0 session.1 session.2
-    (unless_map call.routine (Follows call (older ∷ olds) × IsSessionBy (Tells R) (older ∷ olds))
+    (unless_map call.routine (Follows call (older ∷ olds) × IsSessionBy (CallBrings R) (older ∷ olds))
     (Prior R call (older ∷ olds)) (λ both. (older, olds, refl, both.0, all_find R older olds both.1)) session.3)
 
 pub hindsight : Hindsight

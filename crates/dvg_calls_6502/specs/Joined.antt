@@ -9,7 +9,7 @@ use Rattle.dvg_frame.specs.Faults.{Accepts}
 use Rattle.dvg_driver.specs.declared.action.Action.TheVariants.{Peek, Read, Wrote}
 use Rattle.dvg_driver.specs.Script
 use Rattle.dvg_driver.specs.Script.{Item, Did, has_flip}
-use Rattle.dvg_driver.specs.Stands.{Tells}
+use Rattle.dvg_driver.specs.Stands.{ShowsFlag}
 use Rattle.dvg_log.specs.Events.{Happening, IsEvent}
 use Rattle.dvg_log.specs.declared.event.Event.TheVariants.{Offer, Redraw, Tick}
 use Rattle.dvg_log.specs.Entries.{Shown}
@@ -29,17 +29,18 @@ abbrev pub IsMade : List Item → Type 0
 IsMade items = (calls : List Call) × IsSession calls × IsLifeOf calls items
 
 -- what a draft is answered: by dvg_offer, where it is checked before; or by dvg_open, where a program then builds it
-abbrev pub IsTold : List ℕ → List OpKind → Bool → List Item → Type 0
-IsTold R F c items = (Accepts F R × IsAnswered (Calls.Offer F) c items)
+abbrev pub IsOfferAnswered : List ℕ → List OpKind → Bool → List Item → Type 0
+IsOfferAnswered R F c items = (Accepts F R × IsAnswered (Calls.Offer F) c items)
     ⊎ (IsBuilt R F × IsAnswered (Calls.Open F) c items)
 
 -- an event gets this entry: the driver's are what the machine code does, and the others as they are in each legal log
 abbrev pub FitsBoard : List ℕ → List ℕ → Log → Happening → Shown → Type 0
 -- an access of the hardware; where the code reads the flag, it shows whether no run is open
-FitsBoard R image log Tick (Acted action) = IsMade (Did action ∷ life image log) × Tells action (is_none (open_run log))
+FitsBoard R image log Tick (Acted action) = IsMade (Did action ∷ life image log)
+    × ShowsFlag action (is_none (open_run log))
 -- an answer of dvg_offer or dvg_open: C clear, or C set
-FitsBoard R image log (Offer F) Offered = IsTold R F false (life image log)
-FitsBoard R image log (Offer F) Busy = IsTold R F true (life image log)
+FitsBoard R image log (Offer F) Offered = IsOfferAnswered R F false (life image log)
+FitsBoard R image log (Offer F) Busy = IsOfferAnswered R F true (life image log)
 -- an answer of dvg_redraw: C clear, or C set, where the log says why
 FitsBoard R image log Redraw Asked = IsAnswered Calls.Redraw false (life image log)
 FitsBoard R image log Redraw Busy = IsAnswered Calls.Redraw true (life image log) × (has_flip (life image log) ≡ true)

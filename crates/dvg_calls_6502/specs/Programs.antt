@@ -17,13 +17,13 @@ IsLabs op = ⊥
 
 -- what a call of a program brings that knows of no draft: a table, at A and X; a vector that isn't the first; where there
 -- is room, the words of an operation that it may put, at first of a LABS, in range; and it ends no frame of nothing
-abbrev pub Tells : List ℕ → Routine → Cpu → Option (ℕ × List ℕ) → Type 0
-Tells R (Offer F) cpu frame = HasTable cpu.mem (cpu.a + 256 * cpu.x) F
-Tells R (Puts Vector) cpu (Some frame) = 1 ≤ frame.0
-Tells R (Puts part) cpu (Some frame) = IsRoomFor part cpu frame.0
+abbrev pub CallBrings : List ℕ → Routine → Cpu → Option (ℕ × List ℕ) → Type 0
+CallBrings R (Offer F) cpu frame = HasTable cpu.mem (cpu.a + 256 * cpu.x) F
+CallBrings R (Puts Vector) cpu (Some frame) = 1 ≤ frame.0
+CallBrings R (Puts part) cpu (Some frame) = IsRoomFor part cpu frame.0
     → (op : OpKind) × (put_by part cpu ≡ table_of (op ∷ [])) × IsPut R op × IsOp op × (frame.0 ≡ 0 → IsLabs op)
-Tells R Close cpu (Some frame) = 1 ≤ frame.0
-Tells R routine cpu frame = Unit {0}
+CallBrings R Close cpu (Some frame) = 1 ≤ frame.0
+CallBrings R routine cpu frame = Unit {0}
 
 -- the same routine, where dvg_open is of this draft
 abbrev pub renamed : Routine → List OpKind → Routine
@@ -50,5 +50,5 @@ AreBuilt R (call ∷ calls) = BuildsOnly R call.routine × UnlessReset call.rout
 -- for each list of calls of such a program there are drafts, one for each frame that it builds, with which they are calls
 -- as the other laws speak of them
 abbrev pub Hindsight : Type 0
-Hindsight = (R : List ℕ) (calls : List Call) → IsSessionBy (Tells R) calls
+Hindsight = (R : List ℕ) (calls : List Call) → IsSessionBy (CallBrings R) calls
     → (drafts : List (List OpKind)) × IsSession (with_drafts calls drafts) × AreBuilt R (with_drafts calls drafts)

@@ -8,7 +8,7 @@ use Rattle.dvg_driver.specs.declared.action.Action.{Action}
 use Rattle.dvg_driver.specs.declared.action.Action.TheVariants.{Peek, Wrote, Read, Sent, Idle}
 use Rattle.dvg_driver.specs.Script.{Item, Did, frame_writes}
 use Rattle.dvg_driver.specs.Place.{Place, Start, Resting, Writing, Waiting}
-use Rattle.dvg_driver.specs.Stands.{Stage, StandsAfter, Tells, peeked_after}
+use Rattle.dvg_driver.specs.Stands.{ShowsFlag, Stage, StandsAfter, peeked_after}
 use Rattle.dvg_calls_6502.specs.Processor.{Cpu, Access, Reads, Writes, put, run, at_return, flag_place}
 use Rattle.dvg_calls_6502.specs.Code.{dvg_reset, dvg_tick, dvg_offer, dvg_redraw, dvg_put, dvg_pair, dvg_labs, dvg_vector}
 use Rattle.dvg_calls_6502.specs.Board.{seen, is_own, byte1_place, strobe_place, tells_halted, IsLoaded}
@@ -46,7 +46,7 @@ pub record Ticks (cpu : Cpu) (begin stop peeked : ℕ) (life : List Item) : Type
   pub new : Stage
   pub returns : at_return cpu.s (run cpu.s steps cpu) ≡ true
   pub shows : Shows action (seen (run cpu.s steps cpu).log)
-  pub tells : Tells action (tells_halted (cpu.flags 0))
+  pub tells : ShowsFlag action (tells_halted (cpu.flags 0))
   pub stands : StandsAfter new (peeked_after action (cpu.mem byte1_place) peeked) (Did action ∷ life)
   pub holds : Holds (run cpu.s steps cpu).mem begin stop new
   pub loaded : IsLoaded (run cpu.s steps cpu).mem

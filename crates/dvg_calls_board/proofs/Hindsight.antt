@@ -11,7 +11,7 @@ use Rattle.dvg_calls_6502.specs.Amid.{Guard, AreHarmless, changed, guards, is_ke
 use Rattle.dvg_calls_6502.specs.Tables.{table_of}
 use Rattle.dvg_calls_6502.specs.Calls as calls
 use Rattle.dvg_calls_6502.specs.Calls.{Routine, Call, IsSession, IsSessionBy, Brings, Follows, UnlessReset, is_taken, bounds, frame_of}
-use Rattle.dvg_calls_6502.specs.Programs.{Tells, renamed, with_drafts, BuildsOnly, AreBuilt}
+use Rattle.dvg_calls_6502.specs.Programs.{CallBrings, renamed, with_drafts, BuildsOnly, AreBuilt}
 use Rattle.dvg_calls_6502.proofs.Sessions.{by_reset, unless_map}
 use Rattle.dvg_calls_6502.proofs.DraftsForCalls.{call_with, busy_renamed, over_renamed}
 use Rattle.dvg_calls_6502.proofs.Programs.{hindsight}
@@ -140,7 +140,7 @@ Good R (call ∷ list) = IsSession (call ∷ list) × BuildsOnly R call.routine 
 
 abbrev AllTell : List ℕ → List Call → Type 0
 AllTell R [] = Unit {0}
-AllTell R (call ∷ list) = IsSessionBy (Tells R) (call ∷ list) × AllTell R list
+AllTell R (call ∷ list) = IsSessionBy (CallBrings R) (call ∷ list) × AllTell R list
 
 still_tell : (R : List ℕ) (t w : Bool) (list : List Call) → AllTell R list
     → AllTell R (if t then list else if w then [] else list)

@@ -19,7 +19,7 @@ use Rattle.dvg_cells_board.specs.Board as pin
 use Rattle.dvg_cells_board.specs.Clocks.{IsBus, IsServed, after, changes}
 use Rattle.dvg_cells_board.specs.Logs.{did, answered}
 use Rattle.dvg_calls_board.specs.Machine
-use Rattle.dvg_calls_board.specs.Machine.{accesses_of, later, Makes, IsMachine, OfEachMachine, GoesOn, FitsPins, AccessComes}
+use Rattle.dvg_calls_board.specs.Machine.{accesses_of, later, Makes, IsMachine, OfEachMachine, CanIdle, FitsPins, AccessComes}
 use Rattle.dvg_calls_board.proofs.Machine.{legal, done, finds, answers}
 use Rattle.dvg_calls_board.proofs.Calls.{Next, next_of, first_is, written_in_ram}
 use Rattle.dvg_calls_board.proofs.System.{made_lives}
@@ -73,7 +73,7 @@ is_written R board a byte rom small few = record { reset = omega arith; a = smal
 is_served : (R : List ℕ) (board : Board) → IsServed R board (quiet_for R board)
 is_served R board = record { big = refl; rom = λ takes from to. refl }
 
-pub goes_on : OfEachMachine GoesOn
+pub goes_on : OfEachMachine CanIdle
 goes_on R image held list log older on =
     let board = after held older in
     let bus = quiet_for R board in (

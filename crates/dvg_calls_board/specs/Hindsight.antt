@@ -8,7 +8,7 @@ use Rattle.dvg_log.specs.Legal.{IsLegal}
 use Rattle.dvg_log.specs.Headline.{KeepsHeadline}
 use Rattle.dvg_calls_6502.specs.Calls
 use Rattle.dvg_calls_6502.specs.Calls.{Routine, Call}
-use Rattle.dvg_calls_6502.specs.Programs.{Tells, with_drafts}
+use Rattle.dvg_calls_6502.specs.Programs.{CallBrings, with_drafts}
 use Rattle.dvg_cells_board.specs.Board.{Bus}
 use Rattle.dvg_calls_board.specs.Machine.{IsMachineBy, IsMachine}
 
@@ -19,7 +19,7 @@ IsCheckedTable R routine = Unit {0}
 
 -- a machine whose program tells what each call puts; dvg_open may be of any draft, in the calls and in the log
 abbrev pub IsProgram : (R image : List ℕ) (held : ℕ → ℕ) → List Call → Log → List Bus → Type 0
-IsProgram R image held = IsMachineBy (Tells R) (IsCheckedTable R) R image held
+IsProgram R image held = IsMachineBy (CallBrings R) (IsCheckedTable R) R image held
 
 -- there are the drafts that were built, with which it is a machine that the laws speak of: the same clocks, the same
 -- calls but for these drafts, and a log that is legal and keeps the headline

@@ -137,8 +137,8 @@ FindsRam (call ∷ calls) board = (n a byte : ℕ) → a < 2048 → IsSession (l
     → bus.access ≡ 1 → bus.write ≡ 0 → bus.a ≡ 0x4000 + a → Makes board bus (Reads (0x4000 + a) byte)
 
 -- the board can have a clock more, with neither a reset nor a hold, in which the processor leaves it alone
-abbrev pub GoesOn : List ℕ → List ℕ → (ℕ → ℕ) → List Call → Log → List Bus → Type 0
-GoesOn R image held calls log clocks = (bus : Bus) × (bus.reset ≡ 0) × (bus.hold ≡ 0)
+abbrev pub CanIdle : List ℕ → List ℕ → (ℕ → ℕ) → List Call → Log → List Bus → Type 0
+CanIdle R image held calls log clocks = (bus : Bus) × (bus.reset ≡ 0) × (bus.hold ≡ 0)
     × IsIdle (after held clocks) bus
     × IsMachine R image held calls (answered image held clocks bus false log) (bus ∷ clocks)
 

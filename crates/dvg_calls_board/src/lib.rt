@@ -10,8 +10,8 @@ ghost use Rattle.dvg_cells_board.specs.Clocks.{after};
 ghost use Rattle.dvg_cells_board.specs.Logs.{HoldsRam};
 ghost use Rattle.dvg_calls_board.specs.Example.{SomeBuilder, SomeMachine};
 ghost use Rattle.dvg_calls_board.specs.Hindsight.{HindsightKeeps};
-ghost use Rattle.dvg_calls_board.specs.Machine.{AcceptsPublished, AccessComes, AreDone, FindsRam};
-ghost use Rattle.dvg_calls_board.specs.Machine.{GoesOn, HaveRam, OfEachMachine};
+ghost use Rattle.dvg_calls_board.specs.Machine.{AcceptsPublished, AccessComes, AreDone, CanIdle};
+ghost use Rattle.dvg_calls_board.specs.Machine.{FindsRam, HaveRam, OfEachMachine};
 
 /// For every ROM, first content of the RAM, and run of a machine whose processor calls the driver's
 /// routines, and whose board's clocks make the processor's accesses and answer its reads: the log
@@ -49,7 +49,7 @@ pub fn hindsight_keeps()
 /// makes an access next, a clock can come that makes it: what is written has to be a byte, and a
 /// read of the flag to find the flag.
 pub fn goes_on()
-    ensures waits { OfEachMachine GoesOn }
+    ensures waits { OfEachMachine CanIdle }
     ensures accesses { OfEachMachine AccessComes }
 {}
 

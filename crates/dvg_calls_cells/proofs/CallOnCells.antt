@@ -20,7 +20,7 @@ use Rattle.dvg_calls_board.specs.Machine as system
 use Rattle.dvg_calls_board.specs.Machine.{IsMachine, later, Makes, accesses_of, told}
 use Rattle.dvg_cells_cpu.specs.Cpu.{Cpu as Cells, at, write, dout, clock}
 use Rattle.dvg_cells_cpu.specs.Refines as refined
-use Rattle.dvg_cells_cpu.specs.Refines.{Cycle, pins_of, access, made, AreAnswered, Rests, Goes, IsSound, cycles, fetched}
+use Rattle.dvg_cells_cpu.specs.Refines.{Cycle, pins_of, access, made, AreAnswered, Rests, CellsDo, IsSound, cycles, fetched}
 use Rattle.dvg_cells_cpu.proofs.EachOpcode.{refines}
 use Rattle.dvg_calls_cells.specs.Machine.{Machine}
 use Rattle.dvg_calls_cells.specs.Cycles.{Two, Turn, acts, idles, begins, first_bus, second_bus, wait_bus, next, buses}
@@ -247,7 +247,7 @@ module _ (R image : List ℕ) (held : ℕ → ℕ) (call : Call) (calls : List C
   end_is = amid_one call.steps call.from.s call.others call.from
       ∙ ap (λ (b : Bool). if b then now call else step (now call)) goes
 
-  module _ (g : Goes instr (now call) cells (cycles_of machine list)) where
+  module _ (g : CellsDo instr (now call) cells (cycles_of machine list)) where
     accesses_are : accesses_of (later 1 call) ≡ seen g.news ++ accesses_of call
     accesses_are = ap (λ (c : Cpu). seen c.log) end_is ∙ ap seen g.log ∙ seen_more g.news (Calls.after call).log
 

@@ -25,7 +25,7 @@ use Rattle.dvg_calls_board.specs.Machine.{IsChecked, told}
 use Rattle.dvg_cells_cpu.specs.Cpu as cpu
 use Rattle.dvg_calls_cells.specs.Machine.{Machine}
 use Rattle.dvg_calls_cells.specs.Cycles.{begins, ends, buses}
-use Rattle.dvg_calls_cells.specs.Played.{CellsKeep, Keeps, powers, begins_call}
+use Rattle.dvg_calls_cells.specs.Played.{CellsKeep, CallsKeepHeadline, powers, begins_call}
 use Rattle.dvg_calls_cells.specs.Example.{SomeDrawn}
 use Rattle.dvg_calls_cells.proofs.ExampleCalls.{is_rom, is_image, held_bytes}
 use Rattle.dvg_calls_cells.proofs.CellsFollowCpu.{Ready, Alone, enters_by, plays_alone, twos, lives, ready, goes_by, calls_so, rests_of}
@@ -113,7 +113,7 @@ abbrev no_answer : (n : ℕ) (log : Log) → told zeros (quiet calls.Run n run_f
 no_answer n log = either_way (is_over (quiet calls.Run n run_from)) log
 
 module _ (keep : CellsKeep) where
-  kept : Keeps zeros zeros held (quiet calls.Run nearly.n run_from ∷ begun.list) nearly.older
+  kept : CallsKeepHeadline zeros zeros held (quiet calls.Run nearly.n run_from ∷ begun.list) nearly.older
   kept = keep zeros zeros held (quiet calls.Run nearly.n run_from ∷ begun.list) nearly.older nearly.cells nearly.on
 
   abbrev first_line : Line

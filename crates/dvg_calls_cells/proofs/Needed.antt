@@ -10,7 +10,7 @@ use Rattle.dvg_log.specs.Log.{Log}
 use Rattle.dvg_calls_board.specs.Machine as system
 use Rattle.dvg_calls_board.specs.Machine.{IsMachine, OfEachMachine, HaveRam, calls_after}
 use Rattle.dvg_calls_cells.specs.Cycles.{AreAlike, none, same, elsewhere}
-use Rattle.dvg_calls_cells.specs.Played.{Keeps}
+use Rattle.dvg_calls_cells.specs.Played.{CallsKeepHeadline}
 use Rattle.dvg_calls_cells.specs.Needed.{AreCalls, AreChecked, AreWired, PremisesFollow, AllIsDoes}
 
 -- a clock that changes nothing sends no strobe
@@ -101,7 +101,7 @@ stands (elsewhere {made = made} {shown = shown} one a reading alike) bus more is
 
 -- no log without a call is of clocks of which the newest but one sends a strobe
 pub sent_by_none : (R image : List ℕ) (held : ℕ → ℕ) (last one : Bus) (older : List Bus) → nat_eq last.reset 0 ≡ true
-    → nat_eq one.reset 0 ≡ true → nat_eq one.write 0 ≡ false → sends one ≡ true → Keeps R image held [] (last ∷ one ∷ older) → ⊥
+    → nat_eq one.reset 0 ≡ true → nat_eq one.write 0 ≡ false → sends one ≡ true → CallsKeepHeadline R image held [] (last ∷ one ∷ older) → ⊥
 sent_by_none R image held last one older reset_last reset_one writing sending keeps =
     let a = stands keeps.stand.alike last (one ∷ older) refl in
     let b = stands a.alike one older refl in
@@ -112,7 +112,7 @@ sent_by_none R image held last one older reset_last reset_one writing sending ke
 
 -- the RAM is what the newest call has in memory
 pub has_ram : OfEachMachine (λ R image held list log clocks. HaveRam list (after held clocks)) → (R image : List ℕ) (held : ℕ → ℕ)
-    (call : Call) (olds : List Call) (clocks : List Bus) → Keeps R image held (call ∷ olds) clocks
+    (call : Call) (olds : List Call) (clocks : List Bus) → CallsKeepHeadline R image held (call ∷ olds) clocks
     → HaveRam (call ∷ olds) (after held clocks)
 has_ram shared R image held call olds clocks keeps =
     subst (λ b. HaveRam (call ∷ olds) b) keeps.stand.board

@@ -19,7 +19,7 @@ use Rattle.dvg_cells_cpu.specs.Refines.{Rests, cycles}
 use Rattle.dvg_calls_cells.specs.Machine.{Machine}
 use Rattle.dvg_calls_cells.specs.Cycles.{Two, Turn, acts, begins, between, ends, buses, cycles_of}
 use Rattle.dvg_calls_cells.specs.Steps.{instr_of}
-use Rattle.dvg_calls_cells.specs.Played.{IsPlayed, IsGiven, AreGiven, AreFound, IsPlaced, Does, Keeps, inside, older_after}
+use Rattle.dvg_calls_cells.specs.Played.{IsPlayed, IsGiven, AreGiven, AreFound, IsPlaced, Does, CallsKeepHeadline, inside, older_after}
 use Rattle.dvg_calls_cells.specs.Needed.{DoesBy, all, NeedsFree}
 use Rattle.dvg_calls_cells.proofs.CallOnCells.{ends_are, ends_cells}
 use Rattle.dvg_calls_cells.proofs.Needed.{has_ram}
@@ -92,7 +92,7 @@ module _ (r : Routine) (from : Cpu) (olds : List Call) (session : (n : ℕ) → 
 
   -- where there is a log, the board has what the call has then
   ram_so : OfEachMachine (λ R image held list log clocks. HaveRam list (after held clocks))
-      → Keeps zeros zeros held (quiet r (at.n + 1) from ∷ olds) (older_after held at.older at.cells list) → (a : ℕ) → a < 2048
+      → CallsKeepHeadline zeros zeros held (quiet r (at.n + 1) from ∷ olds) (older_after held at.older at.cells list) → (a : ℕ) → a < 2048
       → (turn from.s at.cpu).mem (0x4000 + a) ≡ (ends (begins at.cells at.board) list).board.ram a
   ram_so shared keeps a few =
       sym (ap (λ (c : Cpu). c.mem (0x4000 + a)) (still from.s (at.n + 1) from ∙ is_new r from olds session none load at.n at.cpu at.is))

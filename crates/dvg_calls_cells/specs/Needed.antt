@@ -15,7 +15,8 @@ use Rattle.dvg_cells_cpu.specs.Cpu.{Cpu as Cells}
 use Rattle.dvg_cells_cpu.specs.Refines.{Where, Rests, cycles, made}
 use Rattle.dvg_calls_cells.specs.Cycles.{Turn, cycles_of, WriteAt, IsSilent}
 use Rattle.dvg_calls_cells.specs.Steps.{now, instr_of}
-use Rattle.dvg_calls_cells.specs.Played.{IsPlayed, IsPlaced, AreGiven, AreFound, Does, Keeps, at_rest, older_after}
+use Rattle.dvg_calls_cells.specs.Played.{IsPlayed, IsPlaced, AreGiven, AreFound, Does, CallsKeepHeadline, at_rest}
+use Rattle.dvg_calls_cells.specs.Played.{older_after}
 
 -- over a ROM of zeros, and a RAM of zeros at first
 abbrev pub held : ℕ → ℕ
@@ -23,7 +24,7 @@ held = slice_index zeros
 
 -- no log is of these calls and clocks as `cells_keep` says
 abbrev pub NoLog : List Call → List Bus → Type 0
-NoLog calls clocks = Keeps zeros zeros held calls clocks → ⊥
+NoLog calls clocks = CallsKeepHeadline zeros zeros held calls clocks → ⊥
 
 -- after a run there are cycles of the program that write only at places of this kind, with which it has no log
 abbrev pub Spoils : (ℕ → Type 0) → List Call → Type 0
@@ -117,4 +118,4 @@ pub record Premises (R image : List ℕ) (held : ℕ → ℕ) (calls : List Call
 
 abbrev pub PremisesFollow : Type 0
 PremisesFollow = (R image : List ℕ) (held : ℕ → ℕ) (calls : List Call) (clocks : List Bus)
-    → Keeps R image held calls clocks → Premises R image held calls clocks
+    → CallsKeepHeadline R image held calls clocks → Premises R image held calls clocks

@@ -2,13 +2,14 @@
 use Rattle.std.specs.Prelude.{◌≡◌, List, []}
 use Rattle.dvg_calls_6502.specs.Processor.{Cpu, Instr, does}
 use Rattle.dvg_cells_cpu.specs.Cpu.{Cpu as Cells}
-use Rattle.dvg_cells_cpu.specs.Refines.{Cycle, Goes, made}
+use Rattle.dvg_cells_cpu.specs.Refines.{CellsDo, Cycle, made}
 use Rattle.dvg_cells_cpu.specs.Interrupts.{Interrupts}
 use Rattle.dvg_calls_cells.specs.Cycles.{AreQuiet}
 
 -- where the accesses of an instruction's step leave the board alone, so do the cycles in which the cells do it
 abbrev pub OwnIsQuiet : Type 0
-OwnIsQuiet = (instr : Instr) (cpu : Cpu) (cells : Cells) (list : List Cycle) → Goes instr cpu cells list → cpu.log ≡ []
+OwnIsQuiet = (instr : Instr) (cpu : Cpu) (cells : Cells) (list : List Cycle) → CellsDo instr cpu cells list
+    → cpu.log ≡ []
     → AreQuiet (does instr cpu).log → AreQuiet (made cells list [])
 
 -- an NMI leaves the board alone

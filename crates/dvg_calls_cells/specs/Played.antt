@@ -134,7 +134,7 @@ pub data IsPlayed (R image : List ℕ) (held : ℕ → ℕ) : List Call → List
 
 -- what is said of its log: it is that of a machine whose processor is the definition's, it is legal, and it keeps the
 -- headline. It is of these clocks, but that what the program looks at by itself isn't in it
-pub record Keeps (R image : List ℕ) (held : ℕ → ℕ) (calls : List Call) (older : List Bus) : Type 0 where
+pub record CallsKeepHeadline (R image : List ℕ) (held : ℕ → ℕ) (calls : List Call) (older : List Bus) : Type 0 where
   pub log : Log
   pub shown : List Bus
   pub stand : StandFor held older shown
@@ -145,7 +145,7 @@ pub record Keeps (R image : List ℕ) (held : ℕ → ℕ) (calls : List Call) (
 
 abbrev pub CellsKeep : Type 0
 CellsKeep = (R image : List ℕ) (held : ℕ → ℕ) (calls : List Call) (older : List Bus) (cells : Cells)
-    → IsPlayed R image held calls older cells → Keeps R image held calls older
+    → IsPlayed R image held calls older cells → CallsKeepHeadline R image held calls older
 
 -- in the second clock of a cycle a reset does nothing, and nor does `ready`
 abbrev pub ResetWaits : Type 0

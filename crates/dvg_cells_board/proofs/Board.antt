@@ -19,7 +19,7 @@ use Rattle.dvg_cells_core.specs.Refines.{ArePins, byte_of}
 use Rattle.dvg_cells_core.specs.Refines as core
 use Rattle.dvg_cells_core.proofs.RegistersFit.{Fits}
 use Rattle.dvg_driver.specs.Script.{Did, IsLife}
-use Rattle.dvg_driver.specs.Stands.{Tells}
+use Rattle.dvg_driver.specs.Stands.{ShowsFlag}
 use Rattle.dvg_log.specs.Log.{Throughout, life}
 use Rattle.dvg_log.specs.Legal.{IsLegal}
 use Rattle.dvg_log.specs.Headline.{KeepsHeadline}
@@ -48,7 +48,7 @@ pub record Holds (R image : List ℕ) (held : ℕ → ℕ) (log : Log) (older : 
       → (after held older).read ≡ (after held older).ram (2 * (after held older).core.at + (after held older).core.high)
 
 module _ (R image : List ℕ) (log : Log) (cs : List Pins) (k : Keeps R image log cs) where
-  acted : (action : Action) → IsLife (Did action ∷ life image log) → Tells action (nat_eq (halted (core.after cs)) 1)
+  acted : (action : Action) → IsLife (Did action ∷ life image log) → ShowsFlag action (nat_eq (halted (core.after cs)) 1)
       → Keeps R image (did (Some action) log) cs
   acted action is tells = acted_line R image log cs k action is tells
 

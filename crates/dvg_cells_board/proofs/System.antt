@@ -13,7 +13,7 @@ use Rattle.dvg_gen.specs.Told as told
 use Rattle.dvg_gen.proofs.GeneratorAfterHistory.{stands_new, stands_reset, open_goes}
 use Rattle.dvg_gen.proofs.OneRun.{leaves_same}
 use Rattle.dvg_driver.specs.Script.{Did, IsLife}
-use Rattle.dvg_driver.specs.Stands.{Tells}
+use Rattle.dvg_driver.specs.Stands.{ShowsFlag}
 use Rattle.dvg_driver.specs.declared.action.Action.{Action}
 use Rattle.dvg_driver.specs.declared.action.Action.TheVariants.{Peek, Wrote, Read, Sent, Idle}
 use Rattle.dvg_log.specs.Events.{Happening, IsEvent}
@@ -388,10 +388,10 @@ module _ (R image : List ℕ) (log : Log) (clocks : List Pins) (k : Keeps R imag
       }
 
   -- a tick: the script's next action
-  pub acted_line : (action : Action) → IsLife (Did action ∷ life image log) → Tells action (nat_eq (halted (after clocks)) 1)
+  pub acted_line : (action : Action) → IsLife (Did action ∷ life image log) → ShowsFlag action (nat_eq (halted (after clocks)) 1)
       → Keeps R image ((Tick ⟼ Acted action) ∷ log) clocks
   acted_line action is tells =
-      kept_line Tick (Acted action) refl refl refl tt (is, subst (λ b. Tells action b) pin_is tells)
+      kept_line Tick (Acted action) refl refl refl tt (is, subst (λ b. ShowsFlag action b) pin_is tells)
 
   -- what needs no access
   pub silent_line : (event : Happening) (shown : Shown) → IsSilent event shown → IsEvent event

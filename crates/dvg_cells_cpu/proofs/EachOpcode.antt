@@ -4,7 +4,7 @@ use Rattle.std.specs.Prelude.{◌⊎◌, nat_eq, if◌then◌else◌}
 use Rattle.std.proofs.lemmas.Bool.{cases_lt}
 use Rattle.dvg_calls_6502.specs.Processor.{Cpu, Instr, Unknown, opcodes, decoded}
 use Rattle.dvg_cells_cpu.specs.Cpu.{clock}
-use Rattle.dvg_cells_cpu.specs.Refines.{AreAnswered, CpuRefines, CpuStays, CpuWaits, Goes, Rests, pins_of}
+use Rattle.dvg_cells_cpu.specs.Refines.{AreAnswered, CellsDo, CpuRefines, CpuStays, CpuWaits, Rests, pins_of}
 use Rattle.dvg_cells_cpu.proofs.Resting.{stood}
 use Rattle.dvg_cells_cpu.proofs.Obeying.{AllObey, Obeys, in_one}
 use Rattle.dvg_cells_cpu.proofs.Rows.{all_obey}
@@ -61,7 +61,7 @@ refines cpu cells list sound rests free count answered =
     let is = stood cells cpu rests free in
     let op = cpu.mem cpu.pc in
     let obeys : Obeys op (decoded opcodes op) = each opcodes op all_obey (unknown_obeys op (sound.bytes cpu.pc)) in
-    subst (λ k. Goes (decoded opcodes op) cpu k list) (sym is)
+    subst (λ k. CellsDo (decoded opcodes op) cpu k list) (sym is)
     (obeys cpu cells.ir cells.low cells.high cells.back cells.was sound refl list count
     (subst (λ k. AreAnswered cpu k list) is answered))
 

@@ -3,7 +3,7 @@ use Rattle.std.proofs.Common.{◌≡◌, ℕ, List, [], ◌∷◌, ◌∙◌}
 use Rattle.std.specs.Prelude.{length}
 use Rattle.dvg_calls_6502.specs.Processor.{Cpu, Instr}
 use Rattle.dvg_cells_cpu.specs.Cpu.{Cpu as Cells}
-use Rattle.dvg_cells_cpu.specs.Refines.{AreAnswered, Cycle, Goes, IsSound, cycles}
+use Rattle.dvg_cells_cpu.specs.Refines.{AreAnswered, CellsDo, Cycle, IsSound, cycles}
 use Rattle.dvg_cells_cpu.proofs.OperandReads.{here}
 use Rattle.dvg_cells_cpu.proofs.Lists.{one, two, three, four, five, at_opcode}
 use Rattle.dvg_cells_cpu.proofs.Resting.{cy, resting}
@@ -12,7 +12,7 @@ use Rattle.dvg_cells_cpu.proofs.Resting.{cy, resting}
 abbrev pub Obeys : ℕ → Instr → Type 0
 Obeys op instr = (cpu : Cpu) (ir low high back was : ℕ) → IsSound cpu → cpu.mem cpu.pc ≡ op → (list : List Cycle)
     → length list ≡ cycles instr → AreAnswered cpu (resting cpu ir low high back was) list
-    → Goes instr cpu (resting cpu ir low high back was) list
+    → CellsDo instr cpu (resting cpu ir low high back was) list
 
 abbrev pub AllObey : List (ℕ × Instr) → Type 0
 AllObey [] = Unit {0}
@@ -20,7 +20,7 @@ AllObey (row ∷ rows) = Obeys row.0 row.1 × AllObey rows
 
 -- in these cycles
 abbrev pub GoesIn : Instr → Cpu → Cells → List Cycle → Type 0
-GoesIn instr cpu cells list = AreAnswered cpu cells list → Goes instr cpu cells list
+GoesIn instr cpu cells list = AreAnswered cpu cells list → CellsDo instr cpu cells list
 
 -- the same, in one to five cycles, the first of which reads this opcode
 abbrev pub Obeys1 : ℕ → Instr → Type 0

@@ -177,7 +177,7 @@ ShowsOpcode cells (cycle ∷ later) = (sync cells ≡ 1) × AreAmid (clock cells
 
 -- the cells do this instruction in these cycles: at its end they rest as the definition's step leaves the processor; what
 -- the bus saw are the reads of the program, and then what the step adds to the log; and those writes make its memory
-pub record Goes (instr : Instr) (cpu : Cpu) (cells : Cells) (list : List Cycle) : Type 0 where
+pub record CellsDo (instr : Instr) (cpu : Cpu) (cells : Cells) (list : List Cycle) : Type 0 where
   pub rests : Rests (ends cells list) (does instr cpu)
   pub news : List Access
   pub log : (does instr cpu).log ≡ news ++ cpu.log
@@ -190,7 +190,7 @@ pub record Goes (instr : Instr) (cpu : Cpu) (cells : Cells) (list : List Cycle) 
 abbrev pub CpuRefines : Type 0
 CpuRefines = (cpu : Cpu) (cells : Cells) (list : List Cycle) → IsSound cpu → Rests cells cpu → cells.due ≡ 0
     → let instr = decoded opcodes (cpu.mem cpu.pc) in
-    length list ≡ cycles instr → AreAnswered cpu cells list → Goes instr cpu cells list
+    length list ≡ cycles instr → AreAnswered cpu cells list → CellsDo instr cpu cells list
 
 -- an opcode that isn't in the table leaves the cells at rest, with the same registers, so it is read again
 abbrev pub CpuStays : Type 0

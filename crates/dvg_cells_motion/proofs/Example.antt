@@ -2,12 +2,12 @@
 use Rattle.std.proofs.Common.{ℕ, zero, suc, ◌<◌, Bool, true, false, List, [], ◌∷◌, refl, arith}
 use Rattle.std.specs.Prelude.{nat_eq, if◌then◌else◌, All}
 use Rattle.std.proofs.lemmas.List.Elements.{All-cons, All-nil}
-use Rattle.dvg_cells_motion.specs.Machine.{IsBus, AreBytes}
+use Rattle.dvg_cells_motion.specs.Machine.{IsBus, HasBytes}
 use Rattle.dvg_cells_motion.specs.Times.{AtOnce}
 use Rattle.dvg_cells_motion.specs.Vectors.{Bus}
 use Rattle.dvg_cells_motion.specs.Example.{some_held, idle, strobe, and_ticks, SomeMotion, halt_held, started, SomePicture}
 
-bytes : AreBytes some_held
+bytes : HasBytes some_held
 bytes a = by (nat_eq a 3)
   where
     by : (b : Bool) → (if b then 0x72 else 0) < 256
@@ -32,7 +32,7 @@ are_ticks (suc n) clocks all =
 pub some_motion_law : SomeMotion
 some_motion_law = (bytes, are_ticks 9 (strobe ∷ []) (All-cons IsBus strobe [] is_strobe (All-nil IsBus)), (refl, refl), refl)
 
-halt_bytes : AreBytes halt_held
+halt_bytes : HasBytes halt_held
 halt_bytes a = by (nat_eq a 1)
   where
     by : (b : Bool) → (if b then 0xB0 else 0) < 256

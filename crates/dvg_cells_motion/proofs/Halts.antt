@@ -12,7 +12,7 @@ use Rattle.dvg_cells_motion.specs.Motion.{going}
 use Rattle.dvg_cells_motion.specs.Pace.{hold}
 use Rattle.dvg_cells_motion.specs.Pace as pace
 use Rattle.dvg_cells_motion.specs.Vectors.{Vectors, Bus, halted, drives_board}
-use Rattle.dvg_cells_motion.specs.Machine.{IsBus, AreBytes, after, cores, ticks}
+use Rattle.dvg_cells_motion.specs.Machine.{IsBus, HasBytes, after, cores, ticks}
 use Rattle.dvg_cells_motion.specs.Times.{run_ticks, late, GoOn, uses_ram, last_tick, tick_before, AtOnce, TakesPicture}
 use Rattle.dvg_cells_motion.proofs.Machine.{both_none, mux_same, over_of}
 use Rattle.dvg_cells_motion.proofs.Pictures.{Progress, progress, finishes, stopped, late_of, both_is_zero, none_or, not_ready}
@@ -72,7 +72,7 @@ sum_none m n a b = omega arith
 abbrev ready_by : Vectors → ℕ → ℕ
 ready_by v tick = mux tick (both (none v.pace.left) (none (going v.motion))) v.pace.ready
 
-module _ (held : ℕ → ℕ) (bytes : AreBytes held) (clocks : List Bus) (bus : Bus) (rested : halted (after held clocks) ≡ 1)
+module _ (held : ℕ → ℕ) (bytes : HasBytes held) (clocks : List Bus) (bus : Bus) (rested : halted (after held clocks) ≡ 1)
     (starts : board.starts (after held clocks).board (drives_board (after held clocks) bus) ≡ 1) where
   abbrev begun : List Bus
   begun = bus ∷ clocks

@@ -27,7 +27,7 @@ use Rattle.dvg_cells_motion.specs.Pace as pace
 use Rattle.dvg_cells_motion.specs.Pulses
 use Rattle.dvg_cells_motion.specs.Pulses.{led, pulses, counters_of, time, within}
 use Rattle.dvg_cells_core.specs.Tells.{moves_of, TellsMove, TellsMoves}
-use Rattle.dvg_cells_motion.specs.Machine.{Begins, Follows}
+use Rattle.dvg_cells_motion.specs.Machine.{BeganAt, CountersFollow}
 use Rattle.dvg_cells_motion.specs.Machine as machine
 use Rattle.dvg_cells_motion.proofs.Tied.{Bus, Beside, paced, driven, cores, core_after, after, AtRest, IsServed, AreServed}
 use Rattle.dvg_cells_motion.proofs.Moves.{state, both_at, begins, on_by, within_less, within_over, all_pulses, stepped_at, time_small}
@@ -213,7 +213,7 @@ module _ (c c' : Core) (beside : Beside) (bus : Bus) (want : Counters) (valid : 
   told_vector old is fx fy move tells leads =
       let no_labs : labs c bus.pins ≡ 0 = tells.1 in
       let no_place : (driven c beside bus).places ≡ 0 = rw off (both_none bus.tick) in
-      let told : Pulses.Tells (driven c beside bus) = record {
+      let told : Pulses.IsVector (driven c beside bus) = record {
         places = no_place;
         vec = tells.0;
         sum = tells.2;
@@ -302,7 +302,7 @@ quiet_any c c' beside bus want no_move no_labs tick still (waits on ready left o
 -- the counters from which the newest run began, and where the moves since then lead
 pub record Led (clocks : List Bus) (run : Newest) : Type 0 where
   pub began : Counters
-  pub begins : Begins (cores clocks) began
+  pub begins : BeganAt (cores clocks) began
   pub phase : Phase (core_after clocks) (after clocks) (followed_all began (moves_of run))
 
 pub record Runs (clocks : List Bus) : Type 0 where
@@ -475,7 +475,7 @@ pub none_is : (n : ℕ) → none n ≡ 1 → n ≡ 0
 none_is zero is = refl
 none_is (suc n) is = let never : none (suc n) ≡ 0 = rw (ne_eqb (suc n) 0 (λ e. absurd (omega arith))) refl in absurd (omega arith)
 
-pub follows_tied : (clocks : List Bus) → AreServed clocks → Follows (cores clocks) (after clocks).pace (after clocks).motion
+pub follows_tied : (clocks : List Bus) → AreServed clocks → CountersFollow (cores clocks) (after clocks).pace (after clocks).motion
 follows_tied clocks are =
     let is = all_run clocks are in
     let want = followed_all is.led.began (moves_of is.stands.stands.run) in

@@ -13,7 +13,7 @@ use Rattle.dvg_code.specs.declared.instr.Instr.TheVariants.{Vctr, Svec}
 use Rattle.dvg_gen.proofs.Counted.{counted_step}
 use Rattle.dvg_cells_core.specs.Cells.{mux, part, bit, add, sub, shl, both, some, none}
 use Rattle.dvg_cells_motion.specs.Motion.{Motion, Pins, clock, going}
-use Rattle.dvg_cells_motion.specs.Pulses.{pulse, pulses, led, IsQuiet, Tells, after, ticks, time, within, counters_of, Fits, moved}
+use Rattle.dvg_cells_motion.specs.Pulses.{pulse, pulses, led, IsQuiet, IsVector, after, ticks, time, within, counters_of, Fits, moved}
 use Rattle.dvg_cells_motion.specs.Pulses.{GoesByPulses, MovesRight, Shows, visible, FollowsVctr, FollowsSvec, Places}
 use Rattle.dvg_cells_motion.proofs.Ticks.{pulses_are}
 
@@ -138,7 +138,7 @@ started : (from sign : ℕ) → from < 4096 → from ≡ led from sign 0
 started from zero h = omega arith
 started from (suc sign) h = omega arith
 
-pub begins : (motion : Motion) (pins : Pins) → Fits motion → Tells pins
+pub begins : (motion : Motion) (pins : Pins) → Fits motion → IsVector pins
     → clock motion pins ≡ state motion.x motion.y (time pins.sum) pins.dx pins.dy pins.dx_sign pins.dy_sign pins.z 0
 begins motion pins fits tells = rw tells.places (rw tells.vec
     (ap (λ k. record { x = k; y = motion.y; count = 0; last = shl 11 2 pins.sum; rate_x = pins.dx; rate_y = pins.dy; back_x = pins.dx_sign; back_y = pins.dy_sign; bright = pins.z }) (started motion.x pins.dx_sign fits.0)
@@ -153,7 +153,7 @@ going_is n last = by (ltb n last) refl
     by false e = rw (eq-eqb last last refl) refl
 
 -- the whole motion some clocks later
-later : (motion : Motion) (pins : Pins) (clocks : List Pins) → Fits motion → Tells pins → All IsQuiet clocks
+later : (motion : Motion) (pins : Pins) (clocks : List Pins) → Fits motion → IsVector pins → All IsQuiet clocks
     → moved motion pins clocks ≡ state motion.x motion.y (time pins.sum) pins.dx pins.dy pins.dx_sign pins.dy_sign pins.z (within (time pins.sum) (ticks clocks))
 later motion pins clocks fits tells quiet =
     ap (λ m. after m clocks) (begins motion pins fits tells)
@@ -188,7 +188,7 @@ led_is from (suc zero) (suc rate) u h b = back from (suc rate * u) h
 led_is from (suc (suc s)) rate u h b = absurd (omega arith)
 
 -- the counters after a vector
-over_at : (motion : Motion) (pins : Pins) (clocks : List Pins) → Fits motion → Tells pins → All IsQuiet clocks → time pins.sum ≤ ticks clocks
+over_at : (motion : Motion) (pins : Pins) (clocks : List Pins) → Fits motion → IsVector pins → All IsQuiet clocks → time pins.sum ≤ ticks clocks
     → counters_of (moved motion pins clocks) ≡ record {
       x = led motion.x pins.dx_sign (whole (pins.dx * unit pins.sum));
       y = led motion.y pins.dy_sign (whole (pins.dy * unit pins.sum));

@@ -11,7 +11,7 @@ use Rattle.dvg_cells_board.specs.Board as board
 use Rattle.dvg_cells_motion.specs.Motion.{going}
 use Rattle.dvg_cells_motion.specs.Pace.{hold}
 use Rattle.dvg_cells_motion.specs.Vectors.{Vectors, Bus, drives_board, halted}
-use Rattle.dvg_cells_motion.specs.Machine.{IsBus, AreBytes, AreIdle, StartTakes, after, core_pins, own_ticks, ticks, vector_left}
+use Rattle.dvg_cells_motion.specs.Machine.{IsBus, HasBytes, AreIdle, StartTakes, after, core_pins, own_ticks, ticks, vector_left}
 use Rattle.dvg_cells_motion.specs.Times.{left_ticks, StartsNone, ResetDraws}
 use Rattle.dvg_cells_motion.proofs.Machine.{Phase, rests, runs, waits, all_run, both_none, mux_same, unserved, stays, held_rests, none_is}
 use Rattle.dvg_cells_motion.proofs.Pictures.{both_is_zero, none_or}
@@ -151,7 +151,7 @@ stays_shut c pins shut none_now off = rw shut (rw none_now (rw off refl))
 abbrev on_ram : Bus → ℕ
 on_ram bus = both bus.access (eq (part 11 5 bus.a) 8)
 
-module _ (held : ℕ → ℕ) (bytes : AreBytes held) (clocks : List Bus) (bus : Bus) (reset : bus.reset ≡ 1) where
+module _ (held : ℕ → ℕ) (bytes : HasBytes held) (clocks : List Bus) (bus : Bus) (reset : bus.reset ≡ 1) where
   abbrev at : List Bus → Vectors
   at later = after held (later ++ bus ∷ clocks)
 
@@ -247,12 +247,12 @@ start_takes_law held bytes clocks bus later all starts idle =
     ∙ ap (λ n. bit (leb (ticks later) (n + vector_left beside.motion))) own
     ∙ ap (λ (b : Beside). bit (leb (ticks later) (1 + vector_left b.motion))) (sym (beside_is held bytes (bus ∷ clocks)))
   where
-    starts_left : (held : ℕ → ℕ) (bytes : AreBytes held) (clocks : List Bus) (bus : Bus)
+    starts_left : (held : ℕ → ℕ) (bytes : HasBytes held) (clocks : List Bus) (bus : Bus)
         → (core_pins (after held clocks) bus).reset ≡ 0 → (core_pins (after held clocks) bus).start ≡ 1
         → (tied_clocks.after (tied held bytes (bus ∷ clocks))).pace.left ≡ 1
     starts_left held bytes clocks bus reset start = rw reset (rw start refl)
 
-    starts_off : (held : ℕ → ℕ) (bytes : AreBytes held) (clocks : List Bus) (bus : Bus)
+    starts_off : (held : ℕ → ℕ) (bytes : HasBytes held) (clocks : List Bus) (bus : Bus)
         → (core_pins (after held clocks) bus).reset ≡ 0 → (core_pins (after held clocks) bus).start ≡ 1
         → (tied_clocks.after (tied held bytes (bus ∷ clocks))).pace.ready ≡ 0
     starts_off held bytes clocks bus reset start = rw reset (rw start refl)

@@ -19,7 +19,7 @@ use Rattle.dvg_cells_motion.specs.Pace.{hold}
 use Rattle.dvg_cells_motion.specs.Pace as pace
 use Rattle.dvg_cells_motion.specs.Vectors.{Vectors, Bus, halted, drives_board}
 use Rattle.dvg_cells_motion.specs.Pulses.{counters_of}
-use Rattle.dvg_cells_motion.specs.Machine.{IsBus, AreBytes, after, core_pins, cores, Follows, MachineFollows, HaltedTells, AreIdle, ticks, ticks_of_byte}
+use Rattle.dvg_cells_motion.specs.Machine.{IsBus, HasBytes, after, core_pins, cores, CountersFollow, MachineFollows, HaltedTells, AreIdle, ticks, ticks_of_byte}
 use Rattle.dvg_cells_motion.specs.Machine.{own_ticks, vector_ticks, TakesTime}
 use Rattle.dvg_cells_motion.proofs.Tied.{Beside, paced, driven, core_after, AreServed, IsServed, IsIdle, ticks_of}
 use Rattle.dvg_cells_motion.proofs.Tied as tied_clocks
@@ -141,7 +141,7 @@ step c beside bus = record {
   motion = motion.clock beside.motion (driven c beside bus);
 }
 
-module _ (held : ℕ → ℕ) (bytes : AreBytes held) where
+module _ (held : ℕ → ℕ) (bytes : HasBytes held) where
   abbrev pub tied : List Bus → List tied_clocks.Bus
   tied [] = []
   tied (bus ∷ clocks) = tied_bus (after held clocks) bus ∷ tied clocks
@@ -237,11 +237,11 @@ module _ (held : ℕ → ℕ) (bytes : AreBytes held) where
       let is = All-head IsBus bus clocks all in
       record { sound = sound_now clocks bus is was; served = (served_now clocks bus is was, was.served) }
 
-  pub follows : (clocks : List Bus) → All IsBus clocks → Follows (cores held clocks) (after held clocks).pace (after held clocks).motion
+  pub follows : (clocks : List Bus) → All IsBus clocks → CountersFollow (cores held clocks) (after held clocks).pace (after held clocks).motion
   follows clocks all =
       let is = follows_tied (tied clocks) (wired clocks all).served in
-      subst (λ b. Follows (cores held clocks) b.pace b.motion) (sym (beside_is clocks))
-      (subst (λ l. Follows l (tied_clocks.after (tied clocks)).pace (tied_clocks.after (tied clocks)).motion) (cores_is clocks) is)
+      subst (λ b. CountersFollow (cores held clocks) b.pace b.motion) (sym (beside_is clocks))
+      (subst (λ l. CountersFollow l (tied_clocks.after (tied clocks)).pace (tied_clocks.after (tied clocks)).motion) (cores_is clocks) is)
 
   -- the later clocks
   abbrev pub tied_later : List Bus → List Bus → List tied_clocks.Bus
@@ -314,7 +314,7 @@ module _ (held : ℕ → ℕ) (bytes : AreBytes held) where
       (sym (core_is clocks))
 
   halts : (clocks : List Bus) → All IsBus clocks → halted (after held clocks) ≡ 1
-      → (is : Follows (cores held clocks) (after held clocks).pace (after held clocks).motion)
+      → (is : CountersFollow (cores held clocks) (after held clocks).pace (after held clocks).motion)
       × (is.agrees.run.is_open ≡ false)
       × (counters_of (after held clocks).motion ≡ followed_all is.began (moves_of is.agrees.run))
   halts clocks all high =

@@ -1,7 +1,7 @@
 -- Examples: the clocks in which a machine draws a vector of one unit, and those of a picture of a HALT alone.
 use Rattle.std.specs.Prelude.{ℕ, zero, suc, ◌≡◌, nat_eq, if◌then◌else◌, All, List, [], ◌∷◌, ◌++◌}
 use Rattle.dvg_cells_board.specs.Board as board
-use Rattle.dvg_cells_motion.specs.Machine.{IsBus, AreBytes, AtRest, after, ticks}
+use Rattle.dvg_cells_motion.specs.Machine.{IsBus, HasBytes, AtRest, after, ticks}
 use Rattle.dvg_cells_motion.specs.Pulses.{counters_of}
 use Rattle.dvg_cells_motion.specs.Times.{GoOn, AtOnce}
 use Rattle.dvg_cells_motion.specs.Vectors.{Bus, halted, drives_board}
@@ -29,7 +29,7 @@ some_clocks = and_ticks 9 (strobe ∷ [])
 
 -- after them the machine is at rest, and x has moved by one unit
 abbrev pub SomeMotion : Type 0
-SomeMotion = AreBytes some_held × All IsBus some_clocks
+SomeMotion = HasBytes some_held × All IsBus some_clocks
     × AtRest (after some_held some_clocks).pace (after some_held some_clocks).motion
     × (counters_of (after some_held some_clocks).motion ≡ record { x = 1; y = 0 })
 
@@ -43,7 +43,7 @@ started = idle 0 ∷ strobe ∷ []
 
 -- it meets the premises of a picture's time, in four ticks: the start's own, one for each byte, and the HALT's own
 abbrev pub SomePicture : Type 0
-SomePicture = AreBytes halt_held × All IsBus (and_ticks 4 [] ++ started) × (halted (after halt_held (strobe ∷ [])) ≡ 1)
+SomePicture = HasBytes halt_held × All IsBus (and_ticks 4 [] ++ started) × (halted (after halt_held (strobe ∷ [])) ≡ 1)
     × (board.starts (after halt_held (strobe ∷ [])).board (drives_board (after halt_held (strobe ∷ [])) (idle 0)) ≡ 1)
     × GoOn halt_held started (and_ticks 4 []) × (halted (after halt_held (and_ticks 4 [] ++ started)) ≡ 1)
     × AtOnce (and_ticks 4 []) × (ticks (and_ticks 4 []) ≡ 4)

@@ -21,8 +21,8 @@ pub record IsBus (bus : Bus) : Type 0 where
   pub rom : bus.rom < 256
 
 -- the RAM holds bytes
-abbrev pub AreBytes : (ℕ → ℕ) → Type 0
-AreBytes held = (a : ℕ) → held a < 256
+abbrev pub HasBytes : (ℕ → ℕ) → Type 0
+HasBytes held = (a : ℕ) → held a < 256
 
 -- the machine after these clocks since power-up, the newest first; its RAM held this at first
 abbrev pub after : (ℕ → ℕ) → List Bus → Vectors
@@ -44,19 +44,19 @@ AtRest pace motion = (going motion ≡ 0) × (pace.placing ≡ 0)
 
 -- the counters from which the newest run of these clocks of the core goes on: 0 at power-up, and at a start those to
 -- which all moves of the run before lead, also if it was broken off
-pub data Begins : List Pins → Counters → Type 0 where
-  powers : Begins [] (record { x = 0; y = 0 })
+pub data BeganAt : List Pins → Counters → Type 0 where
+  powers : BeganAt [] (record { x = 0; y = 0 })
   starts : {pins : Pins} {clocks : List Pins} {began : Counters} → pins.reset ≡ 0 → pins.start ≡ 1
-      → (was : Agrees clocks) → Begins clocks began → Begins (pins ∷ clocks) (followed_all began (moves_of was.run))
+      → (was : Agrees clocks) → BeganAt clocks began → BeganAt (pins ∷ clocks) (followed_all began (moves_of was.run))
   stays : {pins : Pins} {clocks : List Pins} {began : Counters} → (pins.reset ≡ 1) ⊎ (pins.start ≡ 0)
-      → Begins clocks began → Begins (pins ∷ clocks) began
+      → BeganAt clocks began → BeganAt (pins ∷ clocks) began
 
 -- the core agrees with the definition of the generator, and at rest the counters are those that followed all moves of
 -- the run, dark ones too; where `hold` is low, all is at rest
-pub record Follows (clocks : List Pins) (pace : Pace) (motion : Motion) : Type 0 where
+pub record CountersFollow (clocks : List Pins) (pace : Pace) (motion : Motion) : Type 0 where
   pub agrees : Agrees clocks
   pub began : Counters
-  pub begins : Begins clocks began
+  pub begins : BeganAt clocks began
   pub counters : AtRest pace motion → counters_of motion ≡ followed_all began (moves_of agrees.run)
   pub held : hold pace ≡ 0 → AtRest pace motion
   -- once an instruction's own ticks are over, no LABS waits
@@ -64,13 +64,13 @@ pub record Follows (clocks : List Pins) (pace : Pace) (motion : Motion) : Type 0
 
 -- so it is after each list of clocks since power-up, whatever their pins were
 abbrev pub MachineFollows : Type 0
-MachineFollows = (held : ℕ → ℕ) → AreBytes held → (clocks : List Bus) → All IsBus clocks
-    → Follows (cores held clocks) (after held clocks).pace (after held clocks).motion
+MachineFollows = (held : ℕ → ℕ) → HasBytes held → (clocks : List Bus) → All IsBus clocks
+    → CountersFollow (cores held clocks) (after held clocks).pace (after held clocks).motion
 
 -- so where the pin `halted` is high, no run is open, and the counters are those that followed all moves of the newest one
 abbrev pub HaltedTells : Type 0
-HaltedTells = (held : ℕ → ℕ) → AreBytes held → (clocks : List Bus) → All IsBus clocks → halted (after held clocks) ≡ 1
-    → (is : Follows (cores held clocks) (after held clocks).pace (after held clocks).motion)
+HaltedTells = (held : ℕ → ℕ) → HasBytes held → (clocks : List Bus) → All IsBus clocks → halted (after held clocks) ≡ 1
+    → (is : CountersFollow (cores held clocks) (after held clocks).pace (after held clocks).motion)
     × (is.agrees.run.is_open ≡ false)
     × (counters_of (after held clocks).motion ≡ followed_all is.began (moves_of is.agrees.run))
 
@@ -104,7 +104,7 @@ AreIdle held clocks (bus ∷ later) =
 
 -- after a byte `hold` is high until as many ticks came as it has, and one more
 abbrev pub TakesTime : Type 0
-TakesTime = (held : ℕ → ℕ) → AreBytes held → (clocks : List Bus) (bus : Bus) (later : List Bus)
+TakesTime = (held : ℕ → ℕ) → HasBytes held → (clocks : List Bus) (bus : Bus) (later : List Bus)
     → All IsBus (later ++ bus ∷ clocks) → takes (after held clocks).board (drives_board (after held clocks) bus) ≡ 1
     → AreIdle held (bus ∷ clocks) later
     → hold (after held (later ++ bus ∷ clocks)).pace
@@ -116,7 +116,7 @@ vector_left motion = motion.last - motion.count
 
 -- and after a start, also amid a vector, until two ticks came, and those that the vector had left: one is its own
 abbrev pub StartTakes : Type 0
-StartTakes = (held : ℕ → ℕ) → AreBytes held → (clocks : List Bus) (bus : Bus) (later : List Bus)
+StartTakes = (held : ℕ → ℕ) → HasBytes held → (clocks : List Bus) (bus : Bus) (later : List Bus)
     → All IsBus (later ++ bus ∷ clocks) → board.starts (after held clocks).board (drives_board (after held clocks) bus) ≡ 1
     → AreIdle held (bus ∷ clocks) later → hold (after held (later ++ bus ∷ clocks)).pace
     ≡ bit (nat_le (ticks later) (1 + vector_left (after held (bus ∷ clocks)).motion))

@@ -42,7 +42,7 @@ pub record IsQuiet (pins : Pins) : Type 0 where
   pub vec : pins.vec ≡ 0
 
 -- those of a clock in which a vector begins, of fields that fit
-pub record Tells (pins : Pins) : Type 0 where
+pub record IsVector (pins : Pins) : Type 0 where
   pub places : pins.places ≡ 0
   pub vec : pins.vec ≡ 1
   pub sum : pins.sum < 16
@@ -83,7 +83,7 @@ moved motion pins clocks = after (clock motion pins) clocks
 
 -- it is where the pulses so far lead, and goes on exactly while fewer ticks came than the vector has
 abbrev pub GoesByPulses : Type 0
-GoesByPulses = (motion : Motion) (pins : Pins) (clocks : List Pins) → Fits motion → Tells pins → All IsQuiet clocks
+GoesByPulses = (motion : Motion) (pins : Pins) (clocks : List Pins) → Fits motion → IsVector pins → All IsQuiet clocks
     → (counters_of (moved motion pins clocks) ≡ record {
       x = led motion.x pins.dx_sign (pulses pins.dx (within (time pins.sum) (ticks clocks)));
       y = led motion.y pins.dy_sign (pulses pins.dy (within (time pins.sum) (ticks clocks)));
@@ -91,14 +91,14 @@ GoesByPulses = (motion : Motion) (pins : Pins) (clocks : List Pins) → Fits mot
 
 -- once its ticks are over, the counters are stepped on by the signed magnitudes times the unit of the scale
 abbrev pub MovesRight : Type 0
-MovesRight = (motion : Motion) (pins : Pins) (clocks : List Pins) → Fits motion → Tells pins → All IsQuiet clocks
+MovesRight = (motion : Motion) (pins : Pins) (clocks : List Pins) → Fits motion → IsVector pins → All IsQuiet clocks
     → time pins.sum ≤ ticks clocks
     → counters_of (moved motion pins clocks) ≡ stepped (counters_of motion)
     (signed pins.dx_sign pins.dx *ℤ pos (unit pins.sum)) (signed pins.dy_sign pins.dy *ℤ pos (unit pins.sum))
 
 -- so they follow the move of a VCTR, from wherever the exact beam is
 abbrev pub FollowsVctr : Type 0
-FollowsVctr = (motion : Motion) (pins : Pins) (clocks : List Pins) → Fits motion → Tells pins → All IsQuiet clocks
+FollowsVctr = (motion : Motion) (pins : Pins) (clocks : List Pins) → Fits motion → IsVector pins → All IsQuiet clocks
     → time pins.sum ≤ ticks clocks
     → (beam : Beam) (address local z : ℕ) → IsBeam beam.x beam.y beam.scale → pins.sum ≡ (beam.scale + local) % 16
     → InRange (Vctr local (signed pins.dx_sign pins.dx) (signed pins.dy_sign pins.dy) z)
@@ -107,7 +107,7 @@ FollowsVctr = (motion : Motion) (pins : Pins) (clocks : List Pins) → Fits moti
 
 -- the same of an SVEC, whose magnitudes are told times 256
 abbrev pub FollowsSvec : Type 0
-FollowsSvec = (motion : Motion) (pins : Pins) (clocks : List Pins) → Fits motion → Tells pins → All IsQuiet clocks
+FollowsSvec = (motion : Motion) (pins : Pins) (clocks : List Pins) → Fits motion → IsVector pins → All IsQuiet clocks
     → time pins.sum ≤ ticks clocks
     → (beam : Beam) (address local z dx dy : ℕ) → IsBeam beam.x beam.y beam.scale → pins.sum ≡ (beam.scale + local) % 16
     → pins.dx ≡ 256 * dx → pins.dy ≡ 256 * dy
@@ -128,7 +128,7 @@ visible true x y z = if nat_eq (x / 1024 % 2) 0 then if nat_eq (y / 1024 % 2) 0 
 -- what the monitor gets: ten bits of each counter and, until the vector's last tick, its intensity
 -- where bit 10 of both counters is 0; `lit` is high where that intensity isn't 0
 abbrev pub Shows : Type 0
-Shows = (motion : Motion) (pins : Pins) (clocks : List Pins) → Fits motion → Tells pins → All IsQuiet clocks
+Shows = (motion : Motion) (pins : Pins) (clocks : List Pins) → Fits motion → IsVector pins → All IsQuiet clocks
     → (dac_x (moved motion pins clocks) ≡ (moved motion pins clocks).x % 1024)
     × (dac_y (moved motion pins clocks) ≡ (moved motion pins clocks).y % 1024)
     × (shown_z (moved motion pins clocks) ≡ visible (nat_lt (ticks clocks) (time pins.sum)) (moved motion pins clocks).x (moved motion pins clocks).y pins.z)

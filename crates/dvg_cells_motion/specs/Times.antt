@@ -7,7 +7,7 @@ use Rattle.dvg_gen.specs.Run.{Visit, Finished, beam_after, fate}
 use Rattle.dvg_cells_core.specs.Cells.{bit, both, eq, mux, part}
 use Rattle.dvg_cells_core.specs.Refines.{Agrees}
 use Rattle.dvg_cells_board.specs.Board as board
-use Rattle.dvg_cells_motion.specs.Machine.{IsBus, AreBytes, after, cores, ticks, vector_left}
+use Rattle.dvg_cells_motion.specs.Machine.{IsBus, HasBytes, after, cores, ticks, vector_left}
 use Rattle.dvg_cells_motion.specs.Pace.{hold}
 use Rattle.dvg_cells_motion.specs.Pulses.{time}
 use Rattle.dvg_cells_motion.specs.Vectors.{Vectors, Bus, halted, drives_board}
@@ -61,7 +61,7 @@ AtOnce (bus ∷ clocks) = (last_tick clocks ≡ 1 → (bus.tick ≡ 0) × (uses_
 -- from a start where the pin `halted` is high to the next clock in which it is: if the run came to a HALT, as many ticks
 -- came as it has, beside those that came late; where memory answers at once, none did
 abbrev pub TakesPicture : Type 0
-TakesPicture = (held : ℕ → ℕ) → AreBytes held → (clocks : List Bus) (bus : Bus) (later : List Bus)
+TakesPicture = (held : ℕ → ℕ) → HasBytes held → (clocks : List Bus) (bus : Bus) (later : List Bus)
     → All IsBus (later ++ bus ∷ clocks) → halted (after held clocks) ≡ 1
     → board.starts (after held clocks).board (drives_board (after held clocks) bus) ≡ 1 → GoOn held (bus ∷ clocks) later
     → halted (after held (later ++ bus ∷ clocks)) ≡ 1
@@ -84,7 +84,7 @@ StartsNone held clocks (bus ∷ later) =
 -- after a reset, also amid a vector, the board's flag is high at once; the pin `halted` is high as soon as the ticks came
 -- that were left, so the vector is drawn to its end
 abbrev pub ResetDraws : Type 0
-ResetDraws = (held : ℕ → ℕ) → AreBytes held → (clocks : List Bus) (bus : Bus) (later : List Bus)
+ResetDraws = (held : ℕ → ℕ) → HasBytes held → (clocks : List Bus) (bus : Bus) (later : List Bus)
     → All IsBus (later ++ bus ∷ clocks) → bus.reset ≡ 1 → StartsNone held (bus ∷ clocks) later
     → (board.halted (after held (later ++ bus ∷ clocks)).board ≡ 1)
     × (halted (after held (later ++ bus ∷ clocks))

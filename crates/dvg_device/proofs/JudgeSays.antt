@@ -14,7 +14,7 @@ use Rattle.dvg_moment.proofs.LinesRead.{high_reads}
 use Rattle.dvg_device.specs.declared.reply.Reply.{Reply}
 use Rattle.dvg_device.specs.declared.reply.Reply.TheVariants.{Judged}
 use Rattle.dvg_device.specs.declared.reply.RunState.{RunState}
-use Rattle.dvg_device.specs.Judges.{IsJudged, IsTold, IsWrong, RunIs, Says, StandsNow}
+use Rattle.dvg_device.specs.Judges.{IsJudged, IsWrong, JudgesLine, RunIs, Says, StandsNow}
 
 -- what reads nothing contradicts nothing
 silent : (log : Log) (entry : Shown) → ((a : ℕ) → reads log entry a ≡ None) → ¬ Contradicts log entry
@@ -47,7 +47,7 @@ pub was_told : (line : Line) (judge later : MomentJudge) (wrong : Bool) (reply :
     → ((log : Log) → StandsAfter later log → IsJudged log wrong reply)
     → ((log : Log) → StandsAfter judge log → IsTrue wrong ↔ IsWrong log line)
     → ((log : Log) (run : RunState) → StandsNow (line ∷ log) run → RunIs log line run)
-    → IsTold line judge later reply
+    → JudgesLine line judge later reply
 was_told line judge later wrong reply stands judged is_wrong runs = record {
   stands = stands;
   says = λ log s. said line log wrong reply (judged (line ∷ log) (stands log s)) (is_wrong log s) (runs log);

@@ -16,7 +16,7 @@ use Rattle.dvg_device.specs.Worlds.{IsBegun, Resumes, TellsWorld, WorldAnswers}
 use Rattle.dvg_device.specs.declared.driver.DriverFields.{DriverFields}
 use Rattle.dvg_world.specs.Desks.{Driven, IsFresh}
 use Rattle.dvg_device.specs.Drivers.{DriverAnswers}
-use Rattle.dvg_device.specs.Generators.{GeneratorAnswers, Tells}
+use Rattle.dvg_device.specs.Generators.{GeneratorAnswers, IsAnswerTo}
 use Rattle.dvg_device.specs.Wrappings.{CanWrap, TellsWrapped, WrappingAnswers, wrapping_of}
 use Rattle.dvg_device.specs.States.{CanStand, TakesPart, part_in, unbegun}
 use Rattle.dvg_moment.specs.declared.judge.MomentJudge.{MomentJudge}
@@ -129,7 +129,7 @@ Numbered P answer = (answered : Reply) × P answered × (answer ≡ number_of an
 
 -- the number of the reply to a question, by what is open
 abbrev pub ToldBy : Question → Open → ℕ → Type 0
-ToldBy question (Generator machine) answer = Numbered (Tells question machine) answer
+ToldBy question (Generator machine) answer = Numbered (IsAnswerTo question machine) answer
 ToldBy question (Wrapping wrapped) answer = Numbered (TellsWrapped question wrapped) answer
 ToldBy question (World world) answer = Numbered (TellsWorld question world) answer
 ToldBy question Nothing answer = answer ≡ number_of replies.Closed

@@ -41,8 +41,8 @@ onward entry (Some address) low = Onward entry address (is_some low)
 
 -- the same of any state, after a history or not: a byte of a word at some address is wanted exactly where a run is
 -- open, the high one where a low one is kept
-abbrev pub GoesOn : Entry (Unit {0}) → Machine → Reply → Type 0
-GoesOn entry machine reply = (wanted : Option ℕ) × (IsNone wanted ↔ (machine.is_open ≡ false))
+abbrev pub WantsNext : Entry (Unit {0}) → Machine → Reply → Type 0
+WantsNext entry machine reply = (wanted : Option ℕ) × (IsNone wanted ↔ (machine.is_open ≡ false))
     × (reply ≡ onward entry wanted machine.low)
 
 -- a byte or a hole is fetched: at the address that is wanted, and the answer is that of the entry that such a fetch has
@@ -59,7 +59,7 @@ pub record Fetches (byte : Option ℕ) (machine later : Machine) (reply : Reply)
   pub came : OfHistories machine (λ history low run. entry ≡ entry_by address (met low byte) step tt)
   pub answered : OfHistories later (λ history low run. reply ≡ onward entry (wants run) low)
   pub read : entry ≡ entry_by address (met machine.low byte) step tt
-  pub goes_on : GoesOn entry later reply
+  pub goes_on : WantsNext entry later reply
 
 -- there was no memory for the stroke of a vector that the byte completes, and nothing has changed
 pub record LacksRoom (byte : Option ℕ) (machine later : Machine) (reply : Reply) : Type 0 where
@@ -107,16 +107,17 @@ told_return None = Nothing
 told_return (Some address) = ReturnsTo address
 
 -- what a question of a generator is answered
-abbrev pub Tells : Question → Machine → Reply → Type 0
-Tells (questions.Move byte) machine reply = (move : Option Move) × Foretold byte machine move × (reply ≡ told_move move)
-Tells (questions.MoveTo byte) machine reply = (move : Option Move) × Foretold byte machine move
+abbrev pub IsAnswerTo : Question → Machine → Reply → Type 0
+IsAnswerTo (questions.Move byte) machine reply = (move : Option Move) × Foretold byte machine move
+    × (reply ≡ told_move move)
+IsAnswerTo (questions.MoveTo byte) machine reply = (move : Option Move) × Foretold byte machine move
     × (reply ≡ told_end move machine.beam)
-Tells questions.Beam machine reply = reply ≡ Point machine.beam.x machine.beam.y
-Tells questions.Holds machine reply = reply ≡ told_held machine (length machine.stack) false
-Tells (questions.ReturnTo n) machine reply = reply ≡ told_return (slice_get machine.stack n)
-Tells (questions.State n) machine reply = OfHistories machine (λ history low run. CanBeSaved machine)
+IsAnswerTo questions.Beam machine reply = reply ≡ Point machine.beam.x machine.beam.y
+IsAnswerTo questions.Holds machine reply = reply ≡ told_held machine (length machine.stack) false
+IsAnswerTo (questions.ReturnTo n) machine reply = reply ≡ told_return (slice_get machine.stack n)
+IsAnswerTo (questions.State n) machine reply = OfHistories machine (λ history low run. CanBeSaved machine)
     × (reply ≡ told_part (slice_get (parts_of machine) n))
-Tells question machine reply = reply ≡ Unknown
+IsAnswerTo question machine reply = reply ≡ Unknown
 
 -- what a generator comes to by a request. After a strobe the low byte of word zero is wanted
 abbrev pub GeneratorAnswers : Request → Machine → Machine → Reply → Type 0
@@ -130,5 +131,5 @@ GeneratorAnswers requests.Wants machine later reply = (later ≡ machine)
     × OfHistories machine (λ history low run. reply ≡ wanting (wants run) low)
 GeneratorAnswers (requests.Fetch byte) machine later reply = Fetches byte machine later reply
     ⊎ (LacksRoom byte machine later reply ⊎ StaysStill machine later reply)
-GeneratorAnswers (requests.Ask question) machine later reply = (later ≡ machine) × Tells question machine reply
+GeneratorAnswers (requests.Ask question) machine later reply = (later ≡ machine) × IsAnswerTo question machine reply
 GeneratorAnswers request machine later reply = (later ≡ machine) × (reply ≡ Unknown)

@@ -62,14 +62,14 @@ Says log line (Judged run wrong) = RunIs log line run × (IsTrue wrong ↔ IsWro
 Says log line reply = ⊥
 
 -- a judge was told a line, and says how the newest run stands, and whether the line reads what was not written
-pub record IsTold (line : Line) (judge later : MomentJudge) (reply : Reply) : Type 0 where
+pub record JudgesLine (line : Line) (judge later : MomentJudge) (reply : Reply) : Type 0 where
   pub stands : (log : Log) → StandsAfter judge log → StandsAfter later (line ∷ log)
   pub says : (log : Log) → StandsAfter judge log → Says log line reply
 
 -- what a judge comes to by a request
 abbrev pub JudgeAnswers : Request → MomentJudge → MomentJudge → Reply → Type 0
-JudgeAnswers (requests.Tell line) judge later reply = IsTold (line_of line) judge later reply
-JudgeAnswers requests.ResetGenerator judge later reply = IsTold (line_of Ended) judge later reply
-JudgeAnswers requests.ResetProcessor judge later reply = IsTold (line_of Passed) judge later reply
-JudgeAnswers requests.ResetAll judge later reply = IsTold (line_of Reset) judge later reply
+JudgeAnswers (requests.Tell line) judge later reply = JudgesLine (line_of line) judge later reply
+JudgeAnswers requests.ResetGenerator judge later reply = JudgesLine (line_of Ended) judge later reply
+JudgeAnswers requests.ResetProcessor judge later reply = JudgesLine (line_of Passed) judge later reply
+JudgeAnswers requests.ResetAll judge later reply = JudgesLine (line_of Reset) judge later reply
 JudgeAnswers request judge later reply = (later ≡ judge) × (reply ≡ Unknown)

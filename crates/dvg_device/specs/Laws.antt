@@ -91,8 +91,8 @@ IsRestored = (machine : Machine) (old between new : Held) (reply : Reply) → Ca
     → (reply ≡ Opened) × (new ≡ record old { waiting = unbegun; open_part = Generator (restored machine) })
 
 -- it stands after each history after which the machine stands
-abbrev pub GoesOn : Type 0
-GoesOn = (machine : Machine) (history : List Told) (low : Option ℕ) → HasTaken machine history low
+abbrev pub RestoredStands : Type 0
+RestoredStands = (machine : Machine) (history : List Told) (low : Option ℕ) → HasTaken machine history low
     → HasTaken (restored machine) history low
 
 -- a generator whose stack wraps, which saves no address itself: its state is told and it resumes, and so there is one

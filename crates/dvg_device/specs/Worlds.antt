@@ -9,7 +9,7 @@ use Rattle.dvg_log.specs.Entries.{drew_in}
 use Rattle.dvg_log.specs.declared.event.Event.TheVariants as events
 use Rattle.dvg_log.specs.Events.{Happening}
 use Rattle.dvg_world.specs.Standing.{State, WorldAfter, AddsLine, DrawsNow, KeepsHeadlineAfter, shown_in}
-use Rattle.dvg_device.specs.Generators.{Tells}
+use Rattle.dvg_device.specs.Generators.{IsAnswerTo}
 use Rattle.dvg_device.specs.Operations.{Names}
 use Rattle.dvg_device.specs.States.{CanStand}
 use Rattle.dvg_device.specs.declared.driver.DriverFields.{DriverFields}
@@ -69,9 +69,9 @@ declined ResetAll = WrongSize
 declined request = Unknown
 
 -- a request that asks for an event has it happen, or there is no memory for it; another one leaves all as it was
-abbrev pub Goes : Option Happening → Request → State → State → Reply → Type 0
-Goes (Some event) request world later reply = Happens event world later reply ⊎ Lacks event world later reply
-Goes None request world later reply = (later ≡ world) × (reply ≡ declined request)
+abbrev pub AnswersRequest : Option Happening → Request → State → State → Reply → Type 0
+AnswersRequest (Some event) request world later reply = Happens event world later reply ⊎ Lacks event world later reply
+AnswersRequest None request world later reply = (later ≡ world) × (reply ≡ declined request)
 
 -- what is told of the byte of a RAM at an address
 abbrev pub told_byte : ℕ → Option ℕ → Reply
@@ -94,12 +94,12 @@ TellsWorld (questions.Byte n) world reply = reply ≡ told_byte n (slice_get wor
 TellsWorld questions.Driver world reply = OfDriver world (λ state. reply ≡ Driver (fields_of state world.sent))
 TellsWorld (questions.Operation n) world reply =
     OfDriver world (λ state. TellsOperation (slice_get state.frame n) reply)
-TellsWorld question world reply = Tells question world.machine reply
+TellsWorld question world reply = IsAnswerTo question world.machine reply
 
 -- what a world with this draft and these staged bytes comes to by a request
 abbrev pub WorldAnswers : List OpKind → List ℕ → Request → State → State → Reply → Type 0
 WorldAnswers F staged (Ask question) world later reply = (later ≡ world) × TellsWorld question world reply
-WorldAnswers F staged request world later reply = Goes (event_of F staged request) request world later reply
+WorldAnswers F staged request world later reply = AnswersRequest (event_of F staged request) request world later reply
 
 -- a world over its own ROM, with its own picture, that has this RAM, this machine, and these fields of its driver,
 -- which writes this frame

@@ -10,7 +10,7 @@ use Rattle.dvg_gen.specs.Wrapping.{Wrapped, HasWrapped, AnswersWrapped}
 use Rattle.dvg_log.specs.Entries.{entry_by}
 use Rattle.dvg_log.specs.declared.entry.Entry.{Entry}
 use Rattle.dvg_log.specs.declared.entry.Entry.TheVariants.{Started, Cleared, Still}
-use Rattle.dvg_device.specs.Generators.{GoesOn, Tells, onward, told_held, told_return, wanting}
+use Rattle.dvg_device.specs.Generators.{IsAnswerTo, WantsNext, onward, told_held, told_return, wanting}
 use Rattle.dvg_device.specs.States.{CanBeSaved, CanStand, parts_of, told_part, with_stack}
 use Rattle.dvg_device.specs.declared.reply.Reply.{Reply}
 use Rattle.dvg_device.specs.declared.reply.Reply.TheVariants.{Came, Onward, Unknown, NoMemory}
@@ -37,7 +37,7 @@ pub record FetchesWrapped (byte : Option ℕ) (wrapped later : Wrapped) (reply :
   pub came : OfWraps wrapped (λ history low run. entry ≡ entry_by address (met low byte) step tt)
   pub answered : OfWraps later (λ history low run. reply ≡ onward entry (wants run) low)
   pub read : entry ≡ entry_by address (met wrapped.machine.low byte) step tt
-  pub goes_on : GoesOn entry later.machine reply
+  pub goes_on : WantsNext entry later.machine reply
 
 -- there was no memory for the stroke of a vector that the byte completes, and nothing has changed
 pub record LacksRoomWrapped (byte : Option ℕ) (wrapped later : Wrapped) (reply : Reply) : Type 0 where
@@ -72,7 +72,7 @@ TellsWrapped (questions.ReturnTo n) wrapped reply = reply ≡ told_return (slice
 TellsWrapped (questions.State n) wrapped reply = (wrapped.machine.stack ≡ [])
     × OfWraps wrapped (λ history low run. CanBeSaved (saved_of wrapped))
     × (reply ≡ told_part (slice_get (parts_of (saved_of wrapped)) n))
-TellsWrapped question wrapped reply = Tells question wrapped.machine reply
+TellsWrapped question wrapped reply = IsAnswerTo question wrapped.machine reply
 
 -- what it comes to by a request
 abbrev pub WrappingAnswers : Request → Wrapped → Wrapped → Reply → Type 0

@@ -2,7 +2,7 @@
 ghost use Rattle.std.specs.Prelude.{◌≡◌, ◌⊎◌, [], slice_get};
 ghost use Rattle.dvg_log.specs.declared.event.Event.TheVariants.{Tick, Fetch};
 ghost use Rattle.dvg_device.specs.Devices.{Numbered};
-ghost use Rattle.dvg_device.specs.Generators.{Tells};
+ghost use Rattle.dvg_device.specs.Generators.{IsAnswerTo};
 ghost use Rattle.dvg_device.specs.Worlds.{Happens, Lacks, TellsWorld, WorldAnswers, told_byte};
 
 use crate::driver::DriverFields;
@@ -55,7 +55,7 @@ pub(crate) fn tell_world(world: &World<Flat>, question: Question) -> Reply
 
 // Returns the reply of the generator of `world` to `question`.
 fn tell_generator(world: &World<Flat>, question: Question) -> Reply
-    ensures { Tells question world.now.machine result }
+    ensures { IsAnswerTo question world.now.machine result }
 {
     tell(world.generator(), question)
 }

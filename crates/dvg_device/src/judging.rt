@@ -4,7 +4,7 @@
 //! language.
 ghost use Rattle.dvg_log.specs.Log.{Log};
 ghost use Rattle.dvg_moment.specs.Judging.{StandsAfter};
-ghost use Rattle.dvg_device.specs.Judges.{IsJudged, IsTold, JudgeAnswers, line_of};
+ghost use Rattle.dvg_device.specs.Judges.{IsJudged, JudgeAnswers, JudgesLine, line_of};
 
 use crate::reply::{Reply, RunState};
 use crate::request::Request;
@@ -50,7 +50,7 @@ pub(crate) fn ask_judge(judge: &mut MomentJudge, request: Request) -> Reply
 // Tells `judge` of `line`. Returns the reply.
 #[inline(never)]
 fn tell(judge: &mut MomentJudge, line: JudgeLine) -> Reply
-    ensures { IsTold (line_of line) judge.old judge.new result }
+    ensures { JudgesLine (line_of line) judge.old judge.new result }
 {
     match line {
         JudgeLine::Passed => {
@@ -103,7 +103,7 @@ fn standing(judge: &MomentJudge, wrong: bool) -> Reply
 
 // Tells `judge` of a HALT, the word `word` at the word address `address`. Returns the reply.
 fn halt(judge: &mut MomentJudge, address: u16, word: u16) -> Reply
-    ensures { IsTold (line_of (JudgeLine.Done address word)) judge.old judge.new result }
+    ensures { JudgesLine (line_of (JudgeLine.Done address word)) judge.old judge.new result }
 {
     let is_open = judge.is_open();
     let wrong = judge.contradicts_word(address, word);

@@ -1,8 +1,8 @@
 //! Laws of the definitions alone. Each is the contract of a function that does nothing.
-ghost use Rattle.dvg_device.specs.Laws.{AllFit, DriversArePassedOn, GoesOn, IsNeverRefused};
-ghost use Rattle.dvg_device.specs.Laws.{IsPassedOn, IsReadAgain, IsRestored, IsWorldResumed};
-ghost use Rattle.dvg_device.specs.Laws.{IsWorldTaken, IsWrappingRestored, OnwardTakenApart};
-ghost use Rattle.dvg_device.specs.Laws.{OperationsArePassedOn, TakenApart};
+ghost use Rattle.dvg_device.specs.Laws.{AllFit, DriversArePassedOn, IsNeverRefused, IsPassedOn};
+ghost use Rattle.dvg_device.specs.Laws.{IsReadAgain, IsRestored, IsWorldResumed, IsWorldTaken};
+ghost use Rattle.dvg_device.specs.Laws.{IsWrappingRestored, OnwardTakenApart};
+ghost use Rattle.dvg_device.specs.Laws.{OperationsArePassedOn, RestoredStands, TakenApart};
 
 /// The number of a reply that has a kind, and isn't `Onward`, gives back the kind by its lowest
 /// byte, the address by the next 16 bits, and the value by what stands above. Where the value has
@@ -32,7 +32,7 @@ pub fn parts_are_passed_on()
 pub fn state_is_restored()
     ensures suits { IsNeverRefused }
     ensures restored { IsRestored }
-    ensures goes_on { GoesOn }
+    ensures goes_on { RestoredStands }
     ensures wrapping { IsWrappingRestored }
 {}
 

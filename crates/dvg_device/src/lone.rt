@@ -4,9 +4,9 @@ ghost use Rattle.dvg_gen.specs.Saved.{machine_of};
 ghost use Rattle.dvg_gen.specs.Told.{wants};
 ghost use Rattle.dvg_gen.specs.declared.TheConstants.{STACK_DEPTH};
 ghost use Rattle.dvg_device.specs.Devices.{Numbered};
-ghost use Rattle.dvg_device.specs.Generators.{Fetches, GeneratorAnswers, GoesOn, LacksRoom};
-ghost use Rattle.dvg_device.specs.Generators.{OfHistories};
-ghost use Rattle.dvg_device.specs.Generators.{StaysStill, Tells, told_end, told_held, told_move};
+ghost use Rattle.dvg_device.specs.Generators.{Fetches, GeneratorAnswers, IsAnswerTo, LacksRoom};
+ghost use Rattle.dvg_device.specs.Generators.{OfHistories, StaysStill, WantsNext, told_end};
+ghost use Rattle.dvg_device.specs.Generators.{told_held, told_move};
 ghost use Rattle.dvg_device.specs.States.{CanBeSaved, drawing_parts, drawn_so_far, part_of_stroke};
 ghost use Rattle.dvg_device.specs.States.{parts_of, told_part, with_stack};
 ghost use Rattle.dvg_device.specs.declared.state.StatePart.TheVariants.{Fields};
@@ -42,7 +42,7 @@ pub(crate) fn ask_generator(generator: &mut Generator<Global>, request: Request)
 
 // Returns the reply of `generator` to `question`.
 pub(crate) fn tell(generator: &Generator<Global>, question: Question) -> Reply
-    ensures { Tells question generator.now result }
+    ensures { IsAnswerTo question generator.now result }
 {
     match question {
         Question::Move(byte) => move_of(generator.move_by(byte)),
@@ -272,7 +272,7 @@ pub(crate) fn fetch_high(generator: &mut Generator<Global>, byte: Option<u8>) ->
 pub(crate) fn onward(entry: Entry<()>, generator: &Generator<Global>) -> Reply
     ensures histories { OfHistories generator.now
         (λ history low run. result ≡ onward entry (wants run) low) }
-    ensures any_state { GoesOn entry generator.now result }
+    ensures any_state { WantsNext entry generator.now result }
 {
     match generator.wants() {
         Some(address) => Reply::Onward(entry, address, generator.low_byte().is_some()),

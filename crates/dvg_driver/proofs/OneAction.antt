@@ -8,7 +8,7 @@ use Rattle.dvg_frame.specs.Bytes.{addressed, bytes}
 use Rattle.dvg_frame.specs.Layout.{laid}
 use Rattle.dvg_driver.specs.Script.{Item, Offered, Did, frame_writes}
 use Rattle.dvg_driver.specs.Place.{Place, Start, Booting, Resting, Writing, Waiting, Sending, next_place, place_of_life, with_left, after_write}
-use Rattle.dvg_driver.specs.Stands.{Tells}
+use Rattle.dvg_driver.specs.Stands.{ShowsFlag}
 use Rattle.dvg_driver.specs.Laws.{OneAction}
 use Rattle.dvg_driver.proofs.Places.{life_place, place_before, some_same, with_left-append, write_fits}
 use Rattle.dvg_driver.proofs.Shapes.{place_life}
@@ -34,7 +34,7 @@ same_write writes a byte b other to there is also =
     ap (λ write. Wrote write.0 write.1) same
 
 -- at a place at most one action fits
-at_most_one : (place to there : Place) (one other : Action) (halted : Bool) → next_place place (Did one) ≡ Some to → next_place place (Did other) ≡ Some there → Tells one halted → Tells other halted → other ≡ one
+at_most_one : (place to there : Place) (one other : Action) (halted : Bool) → next_place place (Did one) ≡ Some to → next_place place (Did other) ≡ Some there → ShowsFlag one halted → ShowsFlag other halted → other ≡ one
 at_most_one Start to there Peek Peek halted is also told tells = refl
 at_most_one Booting to there (Read a) (Read b) halted is also told tells = ap Read (tells ∙ sym told)
 at_most_one (Resting first) to there Idle Idle halted is also told tells = refl
@@ -65,7 +65,7 @@ never_emptied [] is = absurd (cc)
 never_emptied (item ∷ life) is = let before = place_before item life (Writing []) is in never_empties before.0 item before.2
 
 -- at a place some action fits
-some_action : (place : Place) (halted : Bool) → (place ≡ Writing [] → ⊥) → (action : Action) × (to : Place) × (next_place place (Did action) ≡ Some to) × Tells action halted
+some_action : (place : Place) (halted : Bool) → (place ≡ Writing [] → ⊥) → (action : Action) × (to : Place) × (next_place place (Did action) ≡ Some to) × ShowsFlag action halted
 some_action Start halted some = (Peek, Booting, refl, tt)
 some_action Booting halted some = (Read halted, (if halted then Resting true else Booting), refl, refl)
 some_action (Resting first) halted some = (Idle, Resting first, refl, tt)

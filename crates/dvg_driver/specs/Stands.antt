@@ -49,9 +49,9 @@ peeked_after Peek byte1 peeked = byte1
 peeked_after action byte1 peeked = peeked
 
 -- a read shows the flag that was handed in
-abbrev pub Tells : Action → Bool → Type 0
-Tells (Read shown) halted = shown ≡ halted
-Tells action halted = Unit {0}
+abbrev pub ShowsFlag : Action → Bool → Type 0
+ShowsFlag (Read shown) halted = shown ≡ halted
+ShowsFlag action halted = Unit {0}
 
 -- a written address is one of the RAM
 abbrev pub IsInRam : Action → Type 0

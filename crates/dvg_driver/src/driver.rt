@@ -5,7 +5,7 @@ ghost use Rattle.std.specs.Prelude.{None, OnErr, OnOk, Some, option_map};
 ghost use Rattle.dvg_frame.specs.Bytes.{IsBehindWordZero, addressed, bytes};
 ghost use Rattle.dvg_frame.specs.Layout.{laid, size};
 ghost use Rattle.dvg_frame.specs.Left.{IsOf, after_item, items_in};
-ghost use Rattle.dvg_frame.specs.Steps.{Begins};
+ghost use Rattle.dvg_frame.specs.Steps.{IsWellFormed};
 ghost use Rattle.dvg_driver.specs.declared.state.Phase.TheVariants as phase;
 ghost use Rattle.dvg_mem.specs.Areas.{base, half_of_high, high, other};
 ghost use Rattle.dvg_driver.specs.Phases.{items_of};
@@ -14,8 +14,9 @@ ghost use Rattle.dvg_driver.specs.Saved.{IsState, IsUnfit, IsUnwritable, IsWrita
 ghost use Rattle.dvg_driver.specs.Saved.{KeepsAccepted, cursor_in, driving_in};
 ghost use Rattle.dvg_driver.specs.Script.{Item, Offered, Asked, Did, IsLife, IsWhole, has_flip};
 ghost use Rattle.dvg_driver.specs.Script.{word_zero};
-ghost use Rattle.dvg_driver.specs.Stands.{IsInRam, KeepsNoOther, StandsAfter, Tells, WritesNext};
-ghost use Rattle.dvg_driver.specs.Stands.{WritesNoByte, WritesWordZero, byte1_of, peeked_after};
+ghost use Rattle.dvg_driver.specs.Stands.{IsInRam, KeepsNoOther, ShowsFlag, StandsAfter};
+ghost use Rattle.dvg_driver.specs.Stands.{WritesNext, WritesNoByte, WritesWordZero, byte1_of};
+ghost use Rattle.dvg_driver.specs.Stands.{peeked_after};
 
 use crate::action::Action;
 use crate::fault::{DriverFault, DriverStateFault};
@@ -159,7 +160,7 @@ impl Driver {
             StandsAfter self.new.stage (peeked_after result byte1 peeked) (Did result ∷ life) }
         ensures scripted { (peeked : ℕ) (life : List Item) → StandsAfter self.old.stage peeked life
             → IsLife (Did result ∷ life) }
-        ensures told { Tells result halted }
+        ensures told { ShowsFlag result halted }
         ensures in_ram { IsInRam result }
         ensures frame { KeepsNoOther self.old self.new }
         ensures idle { result ≡ Action.Idle → self.new ≡ self.old }
@@ -174,7 +175,7 @@ impl Driver {
     /// the check accepts the frame that is being written. That is copied.
     pub fn state(&self) -> DriverState
         ensures driver { self.now ≡ driving_in result }
-        ensures begins { result.phase ≡ phase.Writing → Begins result.frame }
+        ensures begins { result.phase ≡ phase.Writing → IsWellFormed result.frame }
         ensures taken { (R : List ℕ) → KeepsAccepted R self.now → IsState R result }
     {
         let written = match (self.phase, &self.cursor) {
@@ -247,7 +248,7 @@ impl Driver {
         requires { WritesNoByte self.old.stage }
         ensures stands { (peeked : ℕ) (life : List Item) → StandsAfter self.old.stage peeked life →
             StandsAfter self.new.stage (peeked_after result byte1 peeked) (Did result ∷ life) }
-        ensures told { Tells result halted }
+        ensures told { ShowsFlag result halted }
         ensures in_ram { IsInRam result }
         ensures frame { self.new.frame ≡ None }
         ensures idle { result ≡ Action.Idle → self.new ≡ self.old }
@@ -318,7 +319,7 @@ impl Driver {
 fn written_by(cursor: &Cursor) -> (Draft, Half, u16)
     ensures source { cursor.now ≡ record { draft = result.0; half = result.1; left = result.2 } }
     ensures left { result.2 ≤ 2 * size result.0 }
-    ensures begins { Begins result.0 }
+    ensures begins { IsWellFormed result.0 }
 {
     let source = cursor.source();
     (source.0.copy(), source.1, cursor.left())

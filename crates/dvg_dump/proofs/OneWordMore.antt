@@ -15,7 +15,7 @@ use Rattle.dvg_gen.specs.Told.{Told, Start, nothing, goes_on as goes_by, grown, 
 use Rattle.dvg_gen.proofs.OneRun.{leaves_same}
 use Rattle.dvg_gen.proofs.Replies.{drew_finished, fails_breaks, more_goes}
 use Rattle.dvg_dump.specs.Ends.{Complete, Broken, Endless, Ends, drawn_by, halts, breaks, meets_hole, goes_on}
-use Rattle.dvg_dump.specs.Following.{Follows, TakesWord, TellsRun, opened}
+use Rattle.dvg_dump.specs.Following.{FollowsRun, TakesWord, TellsRun, opened}
 use Rattle.dvg_dump.specs.Traces.{trace_if}
 use Rattle.dvg_dump.specs.Tracing.{Trail, Traces, TracesWord, Stepped, Steps, fresh}
 use Rattle.dvg_dump.proofs.OneEnd.{added}
@@ -24,7 +24,7 @@ some_is : {x y : ℕ} → ◌≡◌ {A = Option ℕ} (Some x) (Some y) → x ≡
 some_is e = cc
 
 -- the wanted address
-pub wanted_is : {memory : ℕ → Option ℕ} {machine : Machine} {words : ℕ} {visits : List Visit} {held : Option ℕ} (address : ℕ) (f : Follows memory machine words visits held)
+pub wanted_is : {memory : ℕ → Option ℕ} {machine : Machine} {words : ℕ} {visits : List Visit} {held : Option ℕ} (address : ℕ) (f : FollowsRun memory machine words visits held)
     → Some address ≡ wants f.after.run → address ≡ wanted visits held
 wanted_is address f e = some_is (e ∙ ap wants f.run)
 
@@ -88,7 +88,7 @@ at_word {memory = memory} {visits = visits} {visits' = visits'} {held = held} {h
 
 -- a word or a hole
 pub stepped : {memory : ℕ → Option ℕ} {visits : List Visit} {held : Option ℕ} {words address : ℕ} {old : Machine} (traces : Bool) (word : Option ℕ) (machine : Machine)
-    (before trail : Trail) (answer : Option Reply) → words < 65536 → address ≡ wanted visits held → memory address ≡ word → Follows memory old words visits held
+    (before trail : Trail) (answer : Option Reply) → words < 65536 → address ≡ wanted visits held → memory address ≡ word → FollowsRun memory old words visits held
     → TakesWord old word machine answer → TracesWord address word before trail → Traces traces memory visits held before → Stepped memory traces words address machine trail answer
 stepped {memory = memory} {visits = visits} {held = held} {words = words} {address = address} traces None machine before trail answer low at there f takes same t =
     let told = takes f.history f.after in
@@ -137,7 +137,7 @@ steps (Err refused) memory address word old new before trail there tells takes =
 pub record Followed (traces : Bool) (memory : ℕ → Option ℕ) (words : ℕ) (machine : Machine) (trail : Trail) : Type 0 where
   pub visits : List Visit
   pub held : Option ℕ
-  pub follows : Follows memory machine words visits held
+  pub follows : FollowsRun memory machine words visits held
   pub tells : Traces traces memory visits held trail
 
 -- from its start on

@@ -13,7 +13,7 @@ abbrev pub opened : List Visit → Option ℕ → Newest
 opened visits held = record { first = nothing.first; visits = visits; held = held; is_open = true }
 
 -- a generator is in an open run over a memory, after so many words, with these instructions, and holds this first word
-pub record Follows (memory : ℕ → Option ℕ) (machine : Machine) (words : ℕ) (visits : List Visit)
+pub record FollowsRun (memory : ℕ → Option ℕ) (machine : Machine) (words : ℕ) (visits : List Visit)
     (held : Option ℕ) : Type 0 where
   pub history : List Told
   pub after : HasTaken machine history None

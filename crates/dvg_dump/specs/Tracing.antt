@@ -7,7 +7,7 @@ use Rattle.dvg_gen.specs.Told.{Reply, More, Drew, Fails, nothing}
 use Rattle.dvg_dump.specs.declared.ran.Ran.{Ran}
 use Rattle.dvg_dump.specs.declared.tracer.Spelled.{Spelled}
 use Rattle.dvg_dump.specs.Ends.{Ends, Complete, Broken}
-use Rattle.dvg_dump.specs.Following.{Follows}
+use Rattle.dvg_dump.specs.Following.{FollowsRun}
 use Rattle.dvg_dump.specs.Traces.{run_at, trace, trace_if}
 
 -- what a tracer keeps: whether it traces, the first word that it holds, the address where an instruction began, the
@@ -91,7 +91,7 @@ TracesWord address (Some word) old new = (traces : Bool) (memory : ℕ → Optio
 abbrev pub Stepped : (memory : ℕ → Option ℕ) → Bool → (words address : ℕ) → Machine → Trail → Option Reply → Type 0
 Stepped memory traces words address machine trail None = ⊥
 Stepped memory traces words address machine trail (Some More) =
-    (visits : List Visit) × (held : Option ℕ) × Follows memory machine (words + 1) visits held
+    (visits : List Visit) × (held : Option ℕ) × FollowsRun memory machine (words + 1) visits held
     × Traces traces memory visits held trail
 Stepped memory traces words address machine trail (Some (Drew list)) =
     (visits : List Visit) × Ends memory visits (Complete (words + 1) list)
@@ -103,5 +103,5 @@ Stepped memory traces words address machine trail (Some (Fails fault)) =
 abbrev pub Steps : (memory : ℕ → Option ℕ) → (address : ℕ) → Machine → Trail → Machine → Trail → Option Reply → Type 0
 Steps memory address old trail new trail' answer = (traces : Bool) (words : ℕ) (visits : List Visit) (held : Option ℕ)
     → words < 65536 → address ≡ wanted visits held
-    → Follows memory old words visits held → Traces traces memory visits held trail
+    → FollowsRun memory old words visits held → Traces traces memory visits held trail
     → Stepped memory traces words address new trail' answer

@@ -5,7 +5,7 @@ use Rattle.dvg_frame.specs.declared.op.OpKind.{OpKind}
 use Rattle.dvg_frame.specs.Faults.{Refuses}
 use Rattle.dvg_blame.specs.Refusals.{IsFirst, IsGood}
 use Rattle.dvg_log.specs.Log.{Line}
-use Rattle.dvg_logs.specs.LogLines.{Tells}
+use Rattle.dvg_logs.specs.LogLines.{IsLineOf}
 use Rattle.dvg_logs.specs.LogTexts.{AnswersTorn}
 use Rattle.dvg_named.specs.ReadSketches.{IsSketchOf, lent_of}
 use Rattle.dvg_named.specs.SketchFaults.{HasSketchFault}
@@ -33,7 +33,7 @@ AnswersTrace text (Some fault) = HasTraceFault text fault
 
 -- a line of a log, whose bytes are written at addresses of the generator
 abbrev pub TellsSome : List ℕ → Type 0
-TellsSome line = (logged : Line) × Tells None logged line
+TellsSome line = (logged : Line) × IsLineOf None logged line
 
 -- line n is the first that is none of a log
 pub record IsNoLog (text : List ℕ) (n : ℕ) : Type 0 where

@@ -16,7 +16,7 @@ use Rattle.dvg_frame.specs.declared.fault.FrameFault.TheVariants.{Empty, NoLabs,
 use Rattle.dvg_frame.specs.declared.checking.pair.Pair.{Pair}
 use Rattle.dvg_frame.specs.declared.checking.sweep.Found.{Found}
 use Rattle.dvg_frame.specs.Layout.{size}
-use Rattle.dvg_frame.specs.Steps.{Leads, Reached, begin, step, Misses, Begins, Closed}
+use Rattle.dvg_frame.specs.Steps.{Leads, Reached, begin, step, Misses, IsWellFormed, Closed}
 use Rattle.dvg_frame.specs.Faults.{Least, Refuses, Accepts}
 use Rattle.dvg_frame.specs.Loops.{Walks, none, more}
 use Rattle.dvg_frame.specs.own.Firsts.{DrawsLabs, NamesNone}
@@ -53,7 +53,7 @@ misses_or F i below =
     (λ past. let far = past.0 in absurd (omega arith))
     (slice_get_cases F i).1
 
-begins_or : (F : List OpKind) → Begins F ⊎ ((fault : FrameFault) × ((R : List ℕ) → Refuses F R fault))
+begins_or : (F : List OpKind) → IsWellFormed F ⊎ ((fault : FrameFault) × ((R : List ℕ) → Refuses F R fault))
 begins_or [] = inr (Empty, λ R. refl)
 begins_or (op ∷ ops) =
     ⊎_elim
@@ -92,7 +92,7 @@ module _ (F : List OpKind) (R : List ℕ) where
   steps_on : {d n : ℕ} {p end : Place} → Walks F R d p (suc n) end → (q : Place) × StepsOn F R p q
   steps_on (more {q = q} leads walk) = (q, goes_from F R leads)
 
-  module _ (image : IsRom R) (begins : Begins F) (fine : AllFine F R) where
+  module _ (image : IsRom R) (begins : IsWellFormed F) (fine : AllFine F R) where
     -- whether a reached pair begins so many steps at its depth is decided
     walks_or : (n d : ℕ) (p : Place) → Reached F R p d → Decided ((end : Place) × Walks F R d p n end)
     walks_or zero d p reached = inl (p, none)
@@ -176,7 +176,7 @@ module _ (F : List OpKind) (R : List ℕ) where
           }))
           (least_below LoopsAt (length swept.items) loops_or)
 
-  begun_answered : IsRom R → Begins F → Accepts F R ⊎ ((fault : FrameFault) × Refuses F R fault)
+  begun_answered : IsRom R → IsWellFormed F → Accepts F R ⊎ ((fault : FrameFault) × Refuses F R fault)
   begun_answered image begins =
       let all = swept F R image begins in
       let few = few_ops F begins in

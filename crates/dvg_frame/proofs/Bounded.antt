@@ -19,7 +19,7 @@ use Rattle.dvg_frame.specs.declared.op.OpKind.TheVariants.{Return}
 use Rattle.dvg_frame.specs.declared.place.Place.{Place}
 use Rattle.dvg_frame.specs.declared.place.Place.TheVariants.{InFrame, InRom}
 use Rattle.dvg_frame.specs.declared.fault.FrameFault.TheVariants.{OutOfRom, NoCaller}
-use Rattle.dvg_frame.specs.Steps.{one, two, Stands, in_frame, in_rom, second, bare, IsFine, Leads, on, jump, call, back, Reached, begin, step, Closed, Begins}
+use Rattle.dvg_frame.specs.Steps.{one, two, Stands, in_frame, in_rom, second, bare, IsFine, Leads, on, jump, call, back, Reached, begin, step, Closed, IsWellFormed}
 use Rattle.dvg_frame.specs.own.Pairs.{pair_of}
 use Rattle.dvg_frame.specs.own.Ways.{IsPlaceOf}
 use Rattle.dvg_frame.specs.Picture.{End, AtHalt, AtReturn, Draws, halts, returns, moves, jumps, call_halts, calls, IsPicture, IsBound}
@@ -97,7 +97,7 @@ module _ (F : List OpKind) (R : List ℕ) (image : IsRom R) (closed : Closed F R
       record { act = _; after = _; stands = in_frame (slice_get-get_or F i Return inside.0) refl }
   stands_in (InRom a) d inside fine = in_rom_stands a d inside fine
 
-  begins : Begins F
+  begins : IsWellFormed F
   begins = closed.begins
 
   pub something : (p : Place) (d : ℕ) → Reached F R p d → Something p

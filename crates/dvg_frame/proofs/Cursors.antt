@@ -10,7 +10,7 @@ use Rattle.dvg_frame.specs.declared.op.OpKind.{OpKind}
 use Rattle.dvg_frame.specs.Bytes.{IsBehindWordZero, addressed, bytes}
 use Rattle.dvg_frame.specs.Left.{CursorState, last_items}
 use Rattle.dvg_frame.specs.Layout.{op_code, laid, size}
-use Rattle.dvg_frame.specs.Steps.{Begins}
+use Rattle.dvg_frame.specs.Steps.{IsWellFormed}
 use Rattle.dvg_frame.specs.declared.cursor.Cursor.TheInside.{Inside}
 use Rattle.dvg_frame.specs.own.Counting.{IsCounted}
 use Rattle.dvg_frame.specs.own.Frames.{AreBytesOf}
@@ -126,7 +126,7 @@ next_kept old new address byte kept next =
     let few = kept.left in
     let less = next.left in
     record {
-      begins = subst Begins (sym next.draft) kept.begins;
+      begins = subst IsWellFormed (sym next.draft) kept.begins;
       counted = next.counted;
       left = omega arith;
       bytes =
@@ -166,7 +166,7 @@ in_ram half F count count_is few =
     addressed_in_ram (2 * base half) (bytes (laid half F)) (omega arith) (omega arith)
 
 -- a cursor that gives the bytes of this draft from the first on
-pub begun : (cursor : Inside) (F : List OpKind) (a count : ℕ) → cursor.draft ≡ F → Begins F → IsCounted F cursor.words_before.items
+pub begun : (cursor : Inside) (F : List OpKind) (a count : ℕ) → cursor.draft ≡ F → IsWellFormed F → IsCounted F cursor.words_before.items
     → cursor.at_hand ≡ [] → cursor.op ≡ 0 → a ≡ base cursor.half → cursor.end ≡ 2 * a + 2 * count → cursor.left ≡ 2 * count
     → length (laid cursor.half F) ≡ count → IsCursor cursor
 begun cursor F a count draft_is begins_so counted none op_is a_is end_is left_is count_is =
@@ -175,7 +175,7 @@ begun cursor F a count draft_is begins_so counted none op_is a_is end_is left_is
     let words = laid_length half F in
     let same = ap size draft_is in
     record {
-      begins = subst Begins (sym draft_is) begins_so;
+      begins = subst IsWellFormed (sym draft_is) begins_so;
       counted = subst (λ G. IsCounted G cursor.words_before.items) (sym draft_is) counted;
       left = omega arith;
       bytes =

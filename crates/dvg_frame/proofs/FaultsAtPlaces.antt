@@ -17,7 +17,7 @@ use Rattle.dvg_frame.specs.declared.checking.pair.Pair.{Pair}
 use Rattle.dvg_frame.specs.declared.checking.way.Way.{Way}
 use Rattle.dvg_frame.specs.Steps.{SpelledAt, one, two, op_act, Stands, in_frame, in_rom, GoesPast, Names, Bad, last, target, second, past, deep, bare, IsFine}
 use Rattle.dvg_frame.specs.Faults.{rank}
-use Rattle.dvg_frame.specs.own.Ways.{IsPlaceOf, way, EndsWithin, StandsSo, GoesOn, Outside, LeadsOutside, IsCall, IsReturn, HasFaultAt, IsLeast}
+use Rattle.dvg_frame.specs.own.Ways.{IsPlaceOf, way, EndsWithin, StandsSo, LeadsOn, Outside, LeadsOutside, IsCall, IsReturn, HasFaultAt, IsLeast}
 
 -- one instruction at most is spelled at an address
 spelled_once : (mem : ℕ → Option ℕ) (a : ℕ) (instr other : Instr) → SpelledAt mem a instr → SpelledAt mem a other → instr ≡ other
@@ -55,14 +55,14 @@ cut_none R a word instr (one {word = v} v_is spells) is first outside =
 cut_none R a word instr (two {second = u} v_is u_is spells) is first outside = outside_none R (a + 1) u outside u_is
 
 -- how an act leads on, and how its way does
-past_goes : (act : Act Place) (after : Place) → GoesPast act → GoesOn (way act after)
+past_goes : (act : Act Place) (after : Place) → GoesPast act → LeadsOn (way act after)
 past_goes (Moves instr) after goes = goes
 past_goes (Jumps q) after goes = goes
 past_goes (Calls q) after goes = goes
 past_goes Returns after goes = goes
 past_goes Halts after goes = goes
 
-goes_past : (act : Act Place) (after : Place) → GoesOn (way act after) → GoesPast act
+goes_past : (act : Act Place) (after : Place) → LeadsOn (way act after) → GoesPast act
 goes_past (Moves instr) after goes = goes
 goes_past (Jumps q) after goes = goes
 goes_past (Calls q) after goes = goes
@@ -129,7 +129,7 @@ module _ (F : List OpKind) (R : List ℕ) where
   by_bad : {p : Place} {d : ℕ} {fault : FrameFault} (act : Act Place) (after : Place) → Stands F R p act after → Bad F R p d fault → HasFaultAt R (length F) (record { place = p; depth = d }) (way act after) fault
   by_bad act after stands (last {act = b} {after = q} stood goes end) =
       let same = same_standing stood stands in
-      (refl, end, subst (λ x. GoesOn (way act x)) same.1 (subst (λ x. GoesOn (way x q)) same.0 (past_goes b q goes)))
+      (refl, end, subst (λ x. LeadsOn (way act x)) same.1 (subst (λ x. LeadsOn (way x q)) same.0 (past_goes b q goes)))
   by_bad act after stands (target {after = q} {act = b} a stood named outside) =
       let same = same_standing stood stands in
       (refl, subst (λ x. LeadsOutside R (way act x)) same.1 (subst (λ x. LeadsOutside R (way x q)) same.0 (names_outside R b q a named outside)))

@@ -12,7 +12,7 @@ use Rattle.dvg_frame.specs.declared.place.Place.{Place}
 use Rattle.dvg_frame.specs.declared.fault.FrameFault.{FrameFault}
 use Rattle.dvg_frame.specs.declared.fault.FrameFault.TheVariants.{Empty, NoLabs, TooLong, Target, RunsOff, OutOfRom, TooDeep, NoCaller, Loops}
 use Rattle.dvg_frame.specs.Layout.{size}
-use Rattle.dvg_frame.specs.Steps.{op_act, Names, Bad, last, target, second, past, deep, bare, IsFine, Reached, BeginsWithLabs, labs, Closed, Misses, misses, Begins}
+use Rattle.dvg_frame.specs.Steps.{op_act, Names, Bad, last, target, second, past, deep, bare, IsFine, Reached, BeginsWithLabs, labs, Closed, Misses, misses, IsWellFormed}
 use Rattle.dvg_frame.specs.Faults.{Least, Refuses}
 use Rattle.dvg_frame.specs.own.Firsts.{DrawsLabs, NamesNone}
 use Rattle.dvg_frame.specs.FaultNumbers.{number_of}
@@ -80,7 +80,7 @@ no_miss_at F i count op kind is kind_is count_is some miss =
     some (subst (λ n. NamesNone n kind) (sym count_is) (subst (NamesNone (length F)) (sym kind_is) (miss_named op is miss)))
 
 -- an operation of a draft without the faults 1 to 4 names none that is missing
-pub names_some : (F : List OpKind) (i : ℕ) (op kind : OpKind) → Begins F → slice_get F i ≡ Some op → kind ≡ op → ¬ NamesNone (length F) kind
+pub names_some : (F : List OpKind) (i : ℕ) (op kind : OpKind) → IsWellFormed F → slice_get F i ≡ Some op → kind ≡ op → ¬ NamesNone (length F) kind
 names_some F i op kind begins is kind_is none = begins.targets i (misses_at F i (length F) op kind is kind_is refl none)
 
 -- what the looks at faults 1 to 4 show
@@ -120,7 +120,7 @@ early_bad (deep stands depth) = omega arith
 early_bad (bare stands depth) = omega arith
 
 -- the fault of the first reached pair that has one is picked
-pub refuses_by : (F : List OpKind) (R : List ℕ) (fault : FrameFault) → Begins F → Least F R fault → Refuses F R fault
+pub refuses_by : (F : List OpKind) (R : List ℕ) (fault : FrameFault) → IsWellFormed F → Least F R fault → Refuses F R fault
 refuses_by F R Empty begins found = let late = late_bad found.bad in absurd (omega arith)
 refuses_by F R NoLabs begins found = let late = late_bad found.bad in absurd (omega arith)
 refuses_by F R TooLong begins found = let late = late_bad found.bad in absurd (omega arith)
@@ -132,5 +132,5 @@ refuses_by F R (NoCaller p) begins found = (begins, found)
 refuses_by F R Loops begins found = let early = early_bad found.bad in absurd (omega arith)
 
 -- where each reached pair is fine, the draft has no fault
-pub closed_by : (F : List OpKind) (R : List ℕ) → Begins F → ((p : Place) → (d : ℕ) → Reached F R p d → IsFine F R p d) → Closed F R
+pub closed_by : (F : List OpKind) (R : List ℕ) → IsWellFormed F → ((p : Place) → (d : ℕ) → Reached F R p d → IsFine F R p d) → Closed F R
 closed_by F R begins fine = record { begins = begins; fine = fine }

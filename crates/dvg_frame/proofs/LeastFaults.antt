@@ -16,7 +16,7 @@ use Rattle.dvg_frame.specs.declared.checking.pair.Pair.{Pair}
 use Rattle.dvg_frame.specs.declared.checking.way.Way.{Way}
 use Rattle.dvg_frame.specs.declared.checking.way.Way.TheVariants.{Move, Jump, Call, Return, Halt}
 use Rattle.dvg_frame.specs.Faults.{rank}
-use Rattle.dvg_frame.specs.own.Ways.{IsPlaceOf, EndsWithin, StandsSo, GoesOn, Outside, LeadsOutside, IsCall, IsReturn, HasFaultAt, IsLeast}
+use Rattle.dvg_frame.specs.own.Ways.{IsPlaceOf, EndsWithin, StandsSo, LeadsOn, Outside, LeadsOutside, IsCall, IsReturn, HasFaultAt, IsLeast}
 use Rattle.dvg_frame.specs.own.Sweeps.{BadPair, FinePair}
 use Rattle.dvg_frame.proofs.FaultsAtPlaces.{stands_there, least_there, fine_there, cut_there}
 use Rattle.dvg_frame.proofs.Words.{stands_halt, stands_call, stands_return, stands_jump, stands_short, stands_long}
@@ -46,7 +46,7 @@ least_below P (suc n) decided =
     (least_below P n (λ j low. decided j (omega arith)))
 
 -- what a way does is decided
-goes_on : (seen : Way) → Decided (GoesOn seen)
+goes_on : (seen : Way) → Decided (LeadsOn seen)
 goes_on (Move after words) = inl tt
 goes_on (Jump to) = inr (λ never. never)
 goes_on (Call to after) = inl tt
@@ -87,7 +87,7 @@ record RunsOn (count : ℕ) (p : Place) (seen : Way) : Type 0 where
   number : ℕ
   place : p ≡ InFrame number
   last : number + 1 ≡ count
-  goes : GoesOn seen
+  goes : LeadsOn seen
 
 runs_on : (count : ℕ) (p : Place) (seen : Way) → Decided (RunsOn count p seen)
 runs_on count (InFrame i) seen =

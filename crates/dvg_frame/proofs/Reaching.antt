@@ -14,11 +14,11 @@ use Rattle.dvg_frame.specs.declared.checking.pair.Pair.{Pair}
 use Rattle.dvg_frame.specs.declared.checking.way.Way.{Way}
 use Rattle.dvg_frame.specs.declared.checking.way.Way.TheVariants.{Move, Jump, Call, Return, Halt}
 use Rattle.dvg_frame.specs.declared.checking.sweep.Found.{Found}
-use Rattle.dvg_frame.specs.Steps.{Begins}
+use Rattle.dvg_frame.specs.Steps.{IsWellFormed}
 use Rattle.dvg_frame.specs.own.Growth.{Grows, AreMarked}
 use Rattle.dvg_frame.specs.own.Pairs.{IsPlace, IsPair, pair_of, first_pair, place_index, index}
 use Rattle.dvg_frame.specs.own.Ways.{IsLeast, StandsSo}
-use Rattle.dvg_frame.specs.own.Sweeps.{BadPair, FinePair, Follows, StaysIn, Sweeps}
+use Rattle.dvg_frame.specs.own.Sweeps.{BadPair, FinePair, StaysIn, Sweeps, WayLeadsTo}
 use Rattle.dvg_frame.proofs.Marks.{same_grows, held_grows, push_grows, both_grow, none_marked, is_held, push_marked}
 use Rattle.dvg_frame.proofs.Swept.{few_ops, pair_in, reached_pair, stays, begins_sweep, is_reached, fine_step, bad_step}
 use Rattle.dvg_frame.proofs.LeastFaults.{look}
@@ -72,7 +72,7 @@ add old pair valid =
     (cases_Bool (get_or old.marks (index pair) false))
 
 -- what a way leads to from a depth
-spread : (old : Listed) (seen : Way) (d : ℕ) → d ≤ DEEPEST → StaysIn seen d → Added old (Follows seen d)
+spread : (old : Listed) (seen : Way) (d : ℕ) → d ≤ DEEPEST → StaysIn seen d → Added old (WayLeadsTo seen d)
 spread old (Move after words) d low stays = add old (pair_of after d) (record { place = stays; depth = low })
 spread old (Jump to) d low stays = add old (pair_of to d) (record { place = stays; depth = low })
 spread old (Call to after) d low stays =
@@ -92,7 +92,7 @@ first_of (Some old) found =
     ⊎_elim (λ less. (old, inr refl, omega arith, omega arith)) (λ no_less. (found, inl refl, omega arith, no_less))
     (cases_lt (index old.pair) (index found.pair))
 
-module _ (F : List OpKind) (R : List ℕ) (image : IsRom R) (begins : Begins F) where
+module _ (F : List OpKind) (R : List ℕ) (image : IsRom R) (begins : IsWellFormed F) where
   -- a sweep that looked at each pair of its list
   pub record Finished : Type 0 where
     pub items : List Pair

@@ -11,13 +11,13 @@ use Rattle.dvg_frame.specs.Faults.{Accepts}
 use Rattle.dvg_frame.specs.Loops.{HasLoop}
 use Rattle.dvg_frame.specs.own.Pairs.{IsPlace}
 use Rattle.dvg_frame.specs.Picture.{AtHalt, Draws, IsBound}
-use Rattle.dvg_frame.specs.Steps.{Reached, begin, step, Closed, Begins}
+use Rattle.dvg_frame.specs.Steps.{Reached, begin, step, Closed, IsWellFormed}
 use Rattle.dvg_frame.specs.own.Tables.{IsRefused, known_at, FitsAt, GoesTo, IsKnown, IsTable, end_of}
 use Rattle.dvg_frame.proofs.Firsts.{closed_by}
 use Rattle.dvg_frame.proofs.Bounded.{at_depth_0, bound_low}
 use Rattle.dvg_frame.proofs.Loops.{walks_few}
 
-module _ (F : List OpKind) (R : List ℕ) (begins : Begins F) (table : List (Option Drawn)) (entries : IsTable F R table) (first : Drawn) (inside : IsPlace (InFrame 0)) (is : known_at table (InFrame 0) ≡ Some first) where
+module _ (F : List OpKind) (R : List ℕ) (begins : IsWellFormed F) (table : List (Option Drawn)) (entries : IsTable F R table) (first : Drawn) (inside : IsPlace (InFrame 0)) (is : known_at table (InFrame 0) ≡ Some first) where
   known : IsKnown F R table (InFrame 0) first
   known = entries (InFrame 0) first inside is
 

@@ -11,7 +11,7 @@ use Rattle.dvg_frame.specs.declared.fault.FrameFault.{FrameFault}
 use Rattle.dvg_frame.specs.Faults.{Accepts}
 use Rattle.dvg_frame.specs.Loops.{Walks, none, more, HasLoop}
 use Rattle.dvg_frame.specs.Picture.{AtHalt, IsBound}
-use Rattle.dvg_frame.specs.Steps.{op_act, Stands, in_frame, GoesPast, Names, Bad, last, target, second, past, deep, bare, Leads, on, jump, call, back, Reached, begin, step, Closed, Begins}
+use Rattle.dvg_frame.specs.Steps.{op_act, Stands, in_frame, GoesPast, Names, Bad, last, target, second, past, deep, bare, Leads, on, jump, call, back, Reached, begin, step, Closed, IsWellFormed}
 use Rattle.dvg_frame.specs.Layout.{size}
 use Rattle.dvg_frame.specs.own.Straight.{RunsStraight, halts, draws}
 use Rattle.dvg_frame.specs.own.Frames.{IsFrame}
@@ -111,7 +111,7 @@ module _ (F : List OpKind) (R : List ℕ) where
   few_steps d i _ way none = let inside = within i way.runs in omega arith
   few_steps d i _ way (more {n = k} leads walk) = let rest = few_steps d (i + 1) k (next_on i way leads) walk in omega arith
 
-  module _ (begins : Begins F) (runs : RunsStraight F) where
+  module _ (begins : IsWellFormed F) (runs : RunsStraight F) where
     -- each reached pair is on the way
     on_the_way : {p : Place} {d : ℕ} → Reached F R p d → (i : ℕ) × IsOnTheWay i p d
     on_the_way begin = (0, record { place = refl; depth = refl; runs = runs })

@@ -22,27 +22,27 @@ use Rattle.dvg_frame.specs.declared.checking.pair.Pair.{Pair}
 use Rattle.dvg_frame.specs.declared.checking.way.Way.{Way}
 use Rattle.dvg_frame.specs.declared.checking.way.Way.TheVariants.{Move, Jump, Call}
 use Rattle.dvg_frame.specs.declared.checking.sweep.Found.{Found}
-use Rattle.dvg_frame.specs.Steps.{Stands, in_frame, in_rom, GoesPast, Names, last, target, past, deep, IsFine, Leads, on, jump, call, back, Reached, begin, step, BeginsWithLabs, labs, misses, Begins}
+use Rattle.dvg_frame.specs.Steps.{Stands, in_frame, in_rom, GoesPast, Names, last, target, past, deep, IsFine, Leads, on, jump, call, back, Reached, begin, step, BeginsWithLabs, labs, misses, IsWellFormed}
 use Rattle.dvg_frame.specs.Faults.{Precedes, Least}
 use Rattle.dvg_frame.specs.own.Growth.{Grows}
 use Rattle.dvg_frame.specs.own.Pairs.{IsPlace, IsPair, pair_of, first_pair, index}
 use Rattle.dvg_frame.specs.own.Ways.{way, IsPlaceOf, StandsSo, IsLeast}
-use Rattle.dvg_frame.specs.own.Sweeps.{ReachedPair, BadPair, FinePair, Follows, StaysIn, IsFound, IsUpTo, IsDone, Sweeps}
+use Rattle.dvg_frame.specs.own.Sweeps.{ReachedPair, BadPair, FinePair, WayLeadsTo, StaysIn, IsFound, IsUpTo, IsDone, Sweeps}
 use Rattle.dvg_frame.proofs.FaultsAtPlaces.{same_standing}
 use Rattle.dvg_frame.proofs.Sizes.{length-le-size}
 use Rattle.dvg_frame.proofs.Marks.{contains_nil, both_grow}
 
 -- what a way leads to joins a list
-pub spread_move : (old new : List Pair) (seen : Way) (after : Place) (words d : ℕ) → seen ≡ Move after words → Grows old new (λ next. next ≡ pair_of after d) → Grows old new (Follows seen d)
-spread_move old new seen after words d is grows = subst (λ x. Grows old new (Follows x d)) (sym is) grows
+pub spread_move : (old new : List Pair) (seen : Way) (after : Place) (words d : ℕ) → seen ≡ Move after words → Grows old new (λ next. next ≡ pair_of after d) → Grows old new (WayLeadsTo seen d)
+spread_move old new seen after words d is grows = subst (λ x. Grows old new (WayLeadsTo x d)) (sym is) grows
 
-pub spread_jump : (old new : List Pair) (seen : Way) (to : Place) (d : ℕ) → seen ≡ Jump to → Grows old new (λ next. next ≡ pair_of to d) → Grows old new (Follows seen d)
-spread_jump old new seen to d is grows = subst (λ x. Grows old new (Follows x d)) (sym is) grows
+pub spread_jump : (old new : List Pair) (seen : Way) (to : Place) (d : ℕ) → seen ≡ Jump to → Grows old new (λ next. next ≡ pair_of to d) → Grows old new (WayLeadsTo seen d)
+spread_jump old new seen to d is grows = subst (λ x. Grows old new (WayLeadsTo x d)) (sym is) grows
 
 pub spread_call : (old mid new : List Pair) (seen : Way) (to after : Place) (d : ℕ) → seen ≡ Call to after → Grows old mid (λ next. next ≡ pair_of to (d + 1)) → Grows mid new (λ next. next ≡ pair_of after d)
-    → Grows old new (Follows seen d)
+    → Grows old new (WayLeadsTo seen d)
 spread_call old mid new seen to after d is first next =
-    subst (λ x. Grows old new (Follows x d)) (sym is) (both_grow old mid new (λ pair. pair ≡ pair_of to (d + 1)) (λ pair. pair ≡ pair_of after d) first next)
+    subst (λ x. Grows old new (WayLeadsTo x d)) (sym is) (both_grow old mid new (λ pair. pair ≡ pair_of to (d + 1)) (λ pair. pair ≡ pair_of after d) first next)
 
 -- the order of pairs is that of their indexes
 pub precedes : (one other : Pair) → IsPair one → IsPair other → index one ≤ index other → Precedes one.place one.depth other.place other.depth
@@ -95,13 +95,13 @@ pub contains_read : (xs : List Pair) (x : Pair) → Contains xs x → (j : ℕ) 
 contains_read xs x (j, within, is) = (j, within, slice_get-get_or xs j x within ∙ ap Some is)
 
 -- a draft of at most 511 words has at most 511 operations
-pub few_ops : (F : List OpKind) → Begins F → length F ≤ 511
+pub few_ops : (F : List OpKind) → IsWellFormed F → length F ≤ 511
 few_ops F begins = let each = length-le-size F in let fits = begins.fits in omega arith
 
 some_op : (F : List OpKind) → BeginsWithLabs F → 0 < length F
 some_op F labs = omega arith
 
-module _ (F : List OpKind) (R : List ℕ) (few : length F ≤ 511) (begins : Begins F) where
+module _ (F : List OpKind) (R : List ℕ) (few : length F ≤ 511) (begins : IsWellFormed F) where
   -- a fine place leads to places of the draft and the ROM
   pub after_in : {p q : Place} {act : Act Place} (d : ℕ) → Stands F R p act q → GoesPast act → IsFine F R p d → IsPlaceOf F R q
   after_in d (in_frame {i = i} {op = op} is act_is) goes fine =
@@ -147,22 +147,22 @@ module _ (F : List OpKind) (R : List ℕ) (few : length F ≤ 511) (begins : Beg
   stays pair seen valid fine so = subst (λ x. StaysIn x pair.depth) (sym so.is) (stays_by pair.place so.act so.after pair.depth so.stands valid.depth fine)
 
   -- what follows is what the steps lead to
-  leads_follow : {p q : Place} {d e : ℕ} (act : Act Place) (after : Place) → Stands F R p act after → Leads F R p d q e → Follows (way act after) d (pair_of q e)
+  leads_follow : {p q : Place} {d e : ℕ} (act : Act Place) (after : Place) → Stands F R p act after → Leads F R p d q e → WayLeadsTo (way act after) d (pair_of q e)
   leads_follow {p} {q} {d} {e} act after stands (on stood) =
       let same = same_standing stood stands in
-      subst (λ x. Follows (way x after) d (pair_of q d)) same.0 (ap (λ x. pair_of x d) same.1)
+      subst (λ x. WayLeadsTo (way x after) d (pair_of q d)) same.0 (ap (λ x. pair_of x d) same.1)
   leads_follow {p} {q} {d} {e} act after stands (jump stood) =
       let same = same_standing stood stands in
-      subst (λ x. Follows (way x after) d (pair_of q d)) same.0 refl
+      subst (λ x. WayLeadsTo (way x after) d (pair_of q d)) same.0 refl
   leads_follow {p} {q} {d} {e} act after stands (call {d = k} stood) =
       let same = same_standing stood stands in
       let one_deeper : suc k ≡ k + 1 = omega arith in
-      subst (λ x. Follows (way x after) k (pair_of q (suc k))) same.0 (inl (ap (λ x. pair_of q x) one_deeper))
+      subst (λ x. WayLeadsTo (way x after) k (pair_of q (suc k))) same.0 (inl (ap (λ x. pair_of q x) one_deeper))
   leads_follow {p} {q} {d} {e} act after stands (back stood) =
       let same = same_standing stood stands in
-      subst (λ x. Follows (way x after) d (pair_of q d)) same.0 (inr (ap (λ x. pair_of x d) same.1))
+      subst (λ x. WayLeadsTo (way x after) d (pair_of q d)) same.0 (inr (ap (λ x. pair_of x d) same.1))
 
-  follow_leads : (p : Place) (d : ℕ) (act : Act Place) (after : Place) (next : Pair) → Stands F R p act after → Follows (way act after) d next → Leads F R p d next.place next.depth
+  follow_leads : (p : Place) (d : ℕ) (act : Act Place) (after : Place) (next : Pair) → Stands F R p act after → WayLeadsTo (way act after) d next → Leads F R p d next.place next.depth
   follow_leads p d (Moves instr) after next stands follows = subst (λ x. Leads F R p d x.place x.depth) (sym follows) (on stands)
   follow_leads p d (Jumps q) after next stands follows = subst (λ x. Leads F R p d x.place x.depth) (sym follows) (jump stands)
   follow_leads p d (Calls q) after next stands follows =
@@ -200,7 +200,7 @@ module _ (F : List OpKind) (R : List ℕ) (few : length F ≤ 511) (begins : Beg
         subst (IsDone F R items1 best1) same here_done)
         (cases_lt j done)
 
-    pub fine_step : (seen : Way) (items1 items2 : List Pair) (best2 : Option Found) → FinePair F R pair → StandsSo F R pair.place seen → Grows items items1 (Follows seen pair.depth) → items2 ≡ items1 → best2 ≡ best
+    pub fine_step : (seen : Way) (items1 items2 : List Pair) (best2 : Option Found) → FinePair F R pair → StandsSo F R pair.place seen → Grows items items1 (WayLeadsTo seen pair.depth) → items2 ≡ items1 → best2 ≡ best
         → Sweeps F R items2 best2 (done + 1)
     fine_step seen items1 items2 best2 fine so grows items_is best_is =
         let within = slice_get_within items done pair is in
@@ -214,12 +214,12 @@ module _ (F : List OpKind) (R : List ℕ) (few : length F ≤ 511) (begins : Beg
           count = omega arith;
           begins = keep first_pair sweeps.begins;
           reached = λ other held. ⊎_elim (sweeps.reached other)
-              (λ follows. step is_reached fine (follow_leads pair.place pair.depth so.act so.after other so.stands (subst (λ x. Follows x pair.depth other) so.is follows))) (grows.only other held);
+              (λ follows. step is_reached fine (follow_leads pair.place pair.depth so.act so.after other so.stands (subst (λ x. WayLeadsTo x pair.depth other) so.is follows))) (grows.only other held);
           looked = done_next items1 best
               (λ j other low read. let before = sweeps.looked j other low (front j other (omega arith) read) in record { fine = λ good next leads. keep next (before.fine good next leads); bad = before.bad })
               here
               (record {
-                fine = λ good next leads. grows.all next (subst (λ x. Follows x pair.depth next) (sym so.is) (leads_follow so.act so.after so.stands leads));
+                fine = λ good next leads. grows.all next (subst (λ x. WayLeadsTo x pair.depth next) (sym so.is) (leads_follow so.act so.after so.stands leads));
                 bad = λ fault bad. absurd (fine fault bad);
               });
           found = sweeps.found;

@@ -20,7 +20,7 @@ use Rattle.dvg_frame.specs.declared.checking.way.Span.TheVariants.{Over, Into}
 use Rattle.dvg_frame.specs.declared.fault.FrameFault.TheVariants.{RunsOff, OutOfRom, TooDeep, NoCaller}
 use Rattle.dvg_frame.specs.own.Pairs.{IsPlace, pair_of, place_index}
 use Rattle.dvg_frame.specs.Steps.{Stands, last, target, second, past, deep, bare, IsFine, Leads, on, jump, call, back}
-use Rattle.dvg_frame.specs.Steps.{Reached, step, Begins}
+use Rattle.dvg_frame.specs.Steps.{Reached, step, IsWellFormed}
 use Rattle.dvg_frame.specs.Picture.{End, AtHalt, AtReturn}
 use Rattle.dvg_frame.specs.Loops.{Walks, none, more, HasLoop}
 use Rattle.dvg_frame.specs.own.Ways.{way, span, StandsSo, IsPlaceOf, EndsWithin}
@@ -188,7 +188,7 @@ fits_called inside rest new d called deeper fits =
     let calls = called.least (4 - d) (omega arith) (omega arith) in
     record { deep = omega arith; back = λ is. fits.back (sym called.returns ∙ is) }
 
-module _ (F : List OpKind) (R : List ℕ) (begins : Begins F) (table : List (Option Drawn)) (p : Place) (d : ℕ)
+module _ (F : List OpKind) (R : List ℕ) (begins : IsWellFormed F) (table : List (Option Drawn)) (p : Place) (d : ℕ)
     (good : IsGood F R d p) where
   reached_low : (e : ℕ) → Reached F R p e → e ≤ 4
   reached_low e reached = (reached_pair F R (few_ops F begins) begins (pair_of p e) reached).depth
@@ -461,7 +461,7 @@ module _ (F : List OpKind) (R : List ℕ) (d : ℕ) where
   pub good_by : (p : Place) → IsPlaceOf F R p → IsFine F R p d → (AllFine F R → Reached F R p d) → IsGood F R d p
   good_by p inside fine reached = record { inside = inside; fine = fine; reached = reached }
 
-module _ (F : List OpKind) (R : List ℕ) (begins : Begins F) (d : ℕ) where
+module _ (F : List OpKind) (R : List ℕ) (begins : IsWellFormed F) (d : ℕ) where
   -- where a place without a fault leads on to, there is a place
   pub goes_in : (p q : Place) → IsFine F R p d → StepsOn F R p q → IsPlaceOf F R q
   goes_in p q fine goes = by_goes goes.act goes.after goes.stands goes.next
@@ -564,7 +564,7 @@ ready_keeps F R old new p d rest ready keeps entries = record {
   knows = knows_keeps old new ready.next rest keeps ready.knows;
 }
 
-module _ (F : List OpKind) (R : List ℕ) (begins : Begins F) (d : ℕ) where
+module _ (F : List OpKind) (R : List ℕ) (begins : IsWellFormed F) (d : ℕ) where
   -- what a chain is once its last place is taken out
   pub record Popped (table : List (Option Drawn)) (old : Drawn) (start : Place)
       (before rest : List Place) (p : Place) : Type 0 where

@@ -9,7 +9,7 @@ use Rattle.dvg_frame.specs.Bytes.{bytes}
 use Rattle.dvg_frame.specs.Left.{last_items}
 use Rattle.dvg_frame.specs.own.Counting.{IsCounted}
 use Rattle.dvg_frame.specs.Layout.{laid, op_code, size}
-use Rattle.dvg_frame.specs.Steps.{Begins}
+use Rattle.dvg_frame.specs.Steps.{IsWellFormed}
 
 -- the canonical words of these operations of a draft, one after the other
 abbrev pub laid_ops : Half → (F ops : List OpKind) → List ℕ
@@ -30,7 +30,7 @@ items_left cursor = last_items cursor.half cursor.draft cursor.left
 -- the draft has none of the faults 1 to 4, the words before each operation are counted, and the bytes that the cursor
 -- makes are the last ones of the laid draft, before the address after its last byte
 pub record IsCursor (cursor : Inside) : Type 0 where
-  pub begins : Begins cursor.draft
+  pub begins : IsWellFormed cursor.draft
   pub counted : IsCounted cursor.draft cursor.words_before.items
   pub left : cursor.left ≤ 2 * size cursor.draft
   pub bytes : bytes_left cursor ≡ drop (2 * size cursor.draft - cursor.left) (bytes (laid cursor.half cursor.draft))

@@ -7,7 +7,7 @@ use Rattle.dvg_frame.specs.declared.fault.FrameFault.{FrameFault}
 use Rattle.dvg_frame.specs.declared.fault.FrameFault.TheVariants.{Empty, NoLabs, TooLong, Target, RunsOff, OutOfRom}
 use Rattle.dvg_frame.specs.declared.fault.FrameFault.TheVariants.{TooDeep, Loops}
 use Rattle.dvg_frame.specs.Layout.{size}
-use Rattle.dvg_frame.specs.Steps.{Bad, Reached, BeginsWithLabs, Misses, Begins, Closed}
+use Rattle.dvg_frame.specs.Steps.{Bad, Reached, BeginsWithLabs, Misses, IsWellFormed, Closed}
 use Rattle.dvg_frame.specs.Loops.{HasLoop}
 use Rattle.dvg_frame.specs.Picture.{IsBound}
 
@@ -41,7 +41,7 @@ Refuses F R NoLabs = (0 < length F) × ¬ BeginsWithLabs F
 Refuses F R TooLong = BeginsWithLabs F × (511 < size F)
 Refuses F R (Target i) = BeginsWithLabs F × (size F ≤ 511) × Misses F i × ((k : ℕ) → k < i → ¬ Misses F k)
 Refuses F R Loops = Closed F R × HasLoop F R
-Refuses F R fault = Begins F × Least F R fault
+Refuses F R fault = IsWellFormed F × Least F R fault
 
 -- the draft has none of the faults 1 to 8, and no loop
 pub record Accepts (F : List OpKind) (R : List ℕ) : Type 0 where

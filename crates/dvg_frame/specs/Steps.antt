@@ -96,12 +96,12 @@ pub data Misses (F : List OpKind) : ℕ → Type 0 where
   misses : {i j : ℕ} {op : OpKind} → slice_get F i ≡ Some op → Names (op_act op) (InFrame j) → length F ≤ j → Misses F i
 
 -- the draft has none of the faults 1 to 4
-pub record Begins (F : List OpKind) : Type 0 where
+pub record IsWellFormed (F : List OpKind) : Type 0 where
   pub begins : BeginsWithLabs F
   pub fits : size F ≤ 511
   pub targets : (i : ℕ) → ¬ Misses F i
 
 -- and none of the faults 5 to 8 over the ROM
 pub record Closed (F : List OpKind) (R : List ℕ) : Type 0 where
-  pub begins : Begins F
+  pub begins : IsWellFormed F
   pub fine : (p : Place) (d : ℕ) → Reached F R p d → IsFine F R p d

@@ -4,7 +4,7 @@ ghost use Rattle.dvg_frame.specs.Bytes.{bytes};
 ghost use Rattle.dvg_frame.specs.Faults.{FrameState};
 ghost use Rattle.dvg_frame.specs.Layout.{laid, size};
 ghost use Rattle.dvg_frame.specs.Ops.{IsDraft};
-ghost use Rattle.dvg_frame.specs.Steps.{Begins};
+ghost use Rattle.dvg_frame.specs.Steps.{IsWellFormed};
 ghost use Rattle.dvg_frame.specs.own.Counting.{IsCounted};
 ghost use Rattle.dvg_frame.specs.own.Frames.{IsMeasured};
 ghost use Rattle.dvg_mem.specs.declared.half.Half.{Half};
@@ -49,7 +49,7 @@ impl<'a> Checked<'a> {
     pub fn ops(&self) -> &'a [Op]
         ensures value { result.now ≡ self.now.operations }
         ensures draft { IsDraft self.now.operations }
-        ensures begins { Begins self.now.operations }
+        ensures begins { IsWellFormed self.now.operations }
     {
         self.ops
     }
@@ -97,7 +97,7 @@ impl<'a> Checked<'a> {
     // Returns the draft, whose operations are copied.
     pub(crate) fn to_draft(&self) -> Draft
         ensures draft { result ≡ self.now.operations }
-        ensures begins { Begins self.now.operations }
+        ensures begins { IsWellFormed self.now.operations }
     {
         let mut draft = Draft::new();
         draft.try_extend_from_slice(self.ops).unwrap();

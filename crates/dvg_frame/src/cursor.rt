@@ -1,6 +1,6 @@
 //! Cursors: the bytes of a frame, one after the other.
 ghost use Rattle.std.specs.Prelude.{◌<◌, length};
-ghost use Rattle.dvg_frame.specs.Steps.{Begins};
+ghost use Rattle.dvg_frame.specs.Steps.{IsWellFormed};
 ghost use Rattle.dvg_frame.specs.own.Counting.{IsCounted};
 ghost use Rattle.dvg_frame.specs.own.Frames.{AreBytesOf};
 
@@ -60,7 +60,7 @@ impl Cursor {
     ghost use Rattle.dvg_frame.specs.Bytes.{IsBehindWordZero, addressed, bytes};
     ghost use Rattle.dvg_frame.specs.Layout.{laid, size};
     ghost use Rattle.dvg_frame.specs.Left.{IsOf, items_in};
-    ghost use Rattle.dvg_frame.specs.Steps.{Begins};
+    ghost use Rattle.dvg_frame.specs.Steps.{IsWellFormed};
 
     /// Returns a cursor over the bytes of `frame`, laid out for `half`.
     pub fn new(frame: Frame, half: Half) -> Cursor
@@ -130,7 +130,7 @@ impl Cursor {
     pub fn source(&self) -> (&Draft, Half)
         ensures source { IsOf self.now result.0.now result.1 }
         ensures left { self.now.left ≤ 2 * size result.0.now }
-        ensures begins { Begins result.0.now }
+        ensures begins { IsWellFormed result.0.now }
     {
         (&self.draft, self.half)
     }
@@ -175,7 +175,7 @@ impl FusedIterator for Cursor {}
 // many words come before each operation. It isn't inlined: most ticks find a byte at hand.
 #[inline(never)]
 fn bytes_of(draft: &Draft, words_before: &ArrayVec<u16, COUNTS>, half: Half, op: u16) -> WordBytes
-    requires begins { Begins draft.now }
+    requires begins { IsWellFormed draft.now }
     requires counted { IsCounted draft.now words_before.now.items }
     requires within { op < length draft.now }
     ensures { AreBytesOf half draft.now op result }

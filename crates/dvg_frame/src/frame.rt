@@ -2,7 +2,7 @@
 ghost use Rattle.std.specs.Prelude.{◌≡◌, ◌*◌, ◌%◌, ◌^◌, ◌<◌, ◌≤◌, [], ◌∷◌, Some, length, slice_get};
 ghost use Rattle.dvg_code.specs.Spelling.{canon};
 ghost use Rattle.dvg_frame.specs.Bytes.{bytes};
-ghost use Rattle.dvg_frame.specs.Steps.{Begins};
+ghost use Rattle.dvg_frame.specs.Steps.{IsWellFormed};
 ghost use Rattle.dvg_frame.specs.Faults.{FrameState};
 ghost use Rattle.dvg_frame.specs.own.Firsts.{NamesNone};
 ghost use Rattle.dvg_frame.specs.own.Frames.{IsMeasured, IsSpelling};
@@ -99,7 +99,7 @@ pub(crate) fn byte_of(word: u16, k: u16) -> u8
 
 // Returns word `n` of the layout of `draft` for `half`.
 pub(crate) fn word_at(draft: &Counted, half: Half, n: u16) -> u16
-    requires begins { Begins draft.now }
+    requires begins { IsWellFormed draft.now }
     requires within { n < layout.size draft.now }
     ensures { slice_get (layout.laid half draft.now) n ≡ Some result }
 {
@@ -117,7 +117,7 @@ pub(crate) fn word_at(draft: &Counted, half: Half, n: u16) -> u16
 // Returns the words of operation `i` of `draft`, laid out for `half`.
 #[tactic(auto, using(crate::proofs::Firsts::names_some))]
 pub(crate) fn spelling(draft: &Counted, half: Half, i: usize) -> Words
-    requires begins { Begins draft.now }
+    requires begins { IsWellFormed draft.now }
     requires within { i < length draft.now }
     ensures { IsSpelling half draft.now i result.items }
 {

@@ -15,7 +15,7 @@ use Rattle.dvg_calls_6502.proofs.Resuming.{bit_small}
 use Rattle.dvg_game_rules.specs.Alike.{of_cpu}
 use Rattle.dvg_game_rules.proofs.Facts.{inside}
 use Rattle.dvg_game_rules.proofs.Memory.{between}
-use Rattle.dvg_game_6502.specs.Play.{AreBytes, done, fresh}
+use Rattle.dvg_game_6502.specs.Play.{IsByteWide, done, fresh}
 use Rattle.dvg_game_6502.proofs.Bearers.{Bearer}
 use Rattle.dvg_game_6502.proofs.GameSteps.{flags_small}
 use Rattle.dvg_game_6502.proofs.Stages.{IsAccepted, Stage, safe_at}
@@ -26,22 +26,22 @@ shifted_small RotateRight carry old small = let bit = bit_small carry in omega (
 shifted_small _ carry old small = omega arith
 
 -- a register is set to a byte
-set_bytes : (r : Register) (byte : ℕ) (cpu : Cpu) → byte < 256 → AreBytes cpu → AreBytes (setting r byte cpu)
+set_bytes : (r : Register) (byte : ℕ) (cpu : Cpu) → byte < 256 → IsByteWide cpu → IsByteWide (setting r byte cpu)
 set_bytes A byte cpu small bytes = record { a = small; x = bytes.x; y = bytes.y; s = bytes.s; mem = bytes.mem }
 set_bytes X byte cpu small bytes = record { a = bytes.a; x = small; y = bytes.y; s = bytes.s; mem = bytes.mem }
 set_bytes Y byte cpu small bytes = record { a = bytes.a; x = bytes.x; y = small; s = bytes.s; mem = bytes.mem }
 
-flag_bytes : (flag : Flag) (to : Bool) (cpu : Cpu) → AreBytes cpu → AreBytes (flagging flag to cpu)
+flag_bytes : (flag : Flag) (to : Bool) (cpu : Cpu) → IsByteWide cpu → IsByteWide (flagging flag to cpu)
 flag_bytes Negative to cpu bytes = record { a = bytes.a; x = bytes.x; y = bytes.y; s = bytes.s; mem = bytes.mem }
 flag_bytes _ to cpu bytes = record { a = bytes.a; x = bytes.x; y = bytes.y; s = bytes.s; mem = bytes.mem }
 
-sum_bytes : (byte : ℕ) (cpu : Cpu) → AreBytes cpu → AreBytes (summing byte cpu)
+sum_bytes : (byte : ℕ) (cpu : Cpu) → IsByteWide cpu → IsByteWide (summing byte cpu)
 sum_bytes byte cpu bytes = record { a = omega arith; x = bytes.x; y = bytes.y; s = bytes.s; mem = bytes.mem }
 
-difference_bytes : (byte : ℕ) (cpu : Cpu) → AreBytes cpu → AreBytes (subtracting byte cpu)
+difference_bytes : (byte : ℕ) (cpu : Cpu) → IsByteWide cpu → IsByteWide (subtracting byte cpu)
 difference_bytes byte cpu bytes = record { a = omega arith; x = bytes.x; y = bytes.y; s = bytes.s; mem = bytes.mem }
 
-module _ (cpu : Cpu) (bytes : AreBytes cpu) (flag : cpu.flags 0 < 256) where
+module _ (cpu : Cpu) (bytes : IsByteWide cpu) (flag : cpu.flags 0 < 256) where
   found_small : (a : ℕ) → found a cpu < 256
   found_small a = by (nat_eq a flag_place)
     where
@@ -60,7 +60,7 @@ module _ (cpu : Cpu) (bytes : AreBytes cpu) (flag : cpu.flags 0 < 256) where
   operand_small IndexedIndirect = found_small (address IndexedIndirect cpu)
   operand_small IndirectIndexed = found_small (address IndirectIndexed cpu)
 
-  reading_bytes : (mode : Mode) → AreBytes (reading mode cpu)
+  reading_bytes : (mode : Mode) → IsByteWide (reading mode cpu)
   reading_bytes Immediate = record { a = bytes.a; x = bytes.x; y = bytes.y; s = bytes.s; mem = bytes.mem }
   reading_bytes _ = record { a = bytes.a; x = bytes.x; y = bytes.y; s = bytes.s; mem = bytes.mem }
 
@@ -69,10 +69,10 @@ module _ (cpu : Cpu) (bytes : AreBytes cpu) (flag : cpu.flags 0 < 256) where
   register_small X = bytes.x
   register_small Y = bytes.y
 
-  next_bytes : (n : ℕ) → AreBytes (next n cpu)
+  next_bytes : (n : ℕ) → IsByteWide (next n cpu)
   next_bytes n = record { a = bytes.a; x = bytes.x; y = bytes.y; s = bytes.s; mem = bytes.mem }
 
-  change_bytes : (mode : Mode) (byte : ℕ) → byte < 256 → AreBytes (changing mode byte cpu)
+  change_bytes : (mode : Mode) (byte : ℕ) → byte < 256 → IsByteWide (changing mode byte cpu)
   change_bytes mode byte small = let r = reading_bytes mode in record {
     a = r.a;
     x = r.x;
@@ -81,7 +81,7 @@ module _ (cpu : Cpu) (bytes : AreBytes cpu) (flag : cpu.flags 0 < 256) where
     mem = put_small (address mode cpu) byte (reading mode cpu).mem small r.mem;
   }
 
-  does_bytes : (instr : Instr) → cpu.pc < 65534 → AreBytes (does instr cpu)
+  does_bytes : (instr : Instr) → cpu.pc < 65534 → IsByteWide (does instr cpu)
   does_bytes (Load r mode) low = set_bytes r (operand mode cpu) (reading mode cpu) (operand_small mode) (reading_bytes mode)
   does_bytes (Store r mode) low = record {
     a = bytes.a;
@@ -154,14 +154,14 @@ module _ (cpu : Cpu) (bytes : AreBytes cpu) (flag : cpu.flags 0 < 256) where
   does_bytes _ low = record { a = bytes.a; x = bytes.x; y = bytes.y; s = bytes.s; mem = bytes.mem }
 
 -- an instruction, where the flag answers with a byte
-pub done_bytes : (flags : ℕ → ℕ) (cpu : Cpu) → AreBytes cpu → flags 0 < 256 → cpu.pc < 65534 → AreBytes (done flags cpu)
+pub done_bytes : (flags : ℕ → ℕ) (cpu : Cpu) → IsByteWide cpu → flags 0 < 256 → cpu.pc < 65534 → IsByteWide (done flags cpu)
 done_bytes flags cpu bytes small low = does_bytes (fresh flags cpu) record { a = bytes.a; x = bytes.x; y = bytes.y; s = bytes.s; mem = bytes.mem } small
     (decoded opcodes (cpu.mem cpu.pc)) low
 
 -- so wherever a play stands
 pub stage_bytes : {R : List ℕ} {B : Bearer R} {rom : ℕ → ℕ} {start : ℕ} → IsAccepted rom start
     → {cpu : Cpu} {since : ℕ} {w : B.World} (flags : ℕ → ℕ) → flags 0 < 256 → Stage R B rom start cpu since w
-    → AreBytes (done flags cpu)
+    → IsByteWide (done flags cpu)
 stage_bytes game {cpu} flags small (inl g) =
     let high = (inside cpu.pc (safe_at game (of_cpu cpu g.st) g.run).inside).1 in
     done_bytes flags cpu g.bytes small (omega (arith, high))

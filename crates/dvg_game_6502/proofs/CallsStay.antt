@@ -11,7 +11,7 @@ use Rattle.dvg_calls_6502.specs.Routines.{Enters, Labs, Pair, Put, Vector}
 use Rattle.dvg_calls_6502.specs.Calls as c
 use Rattle.dvg_calls_6502.specs.Calls.{Routine, Call, after, entry, is_leaving, is_over, is_refused, is_table}
 use Rattle.dvg_calls_6502.specs.Calls.{IsSessionBy, UnlessReset}
-use Rattle.dvg_calls_6502.specs.Programs.{Tells}
+use Rattle.dvg_calls_6502.specs.Programs.{CallBrings}
 use Rattle.dvg_game_rules.proofs.Facts.{both_true}
 use Rattle.dvg_game_6502.specs.Stays.{CallsStay}
 use Rattle.dvg_game_6502.proofs.Claims.{AreHard, Nothing, Claim, Unknown, Ready, Sized, Holds, HoldsIn}
@@ -259,8 +259,8 @@ ready_on mem now own ready = subst (λ j. Holds Ready j (now 0x14) (now 0x15)) (
     (subst (λ j. Holds Ready (mem 0x10) (mem 0x14) j) (sym (own 0x15 refl)) ready))
 
 -- what is noted holds after a call, if the driver's bytes are ready where it begins
-good_from : (R : List ℕ) (call : Call) (calls : List Call) → IsSessionBy (Tells R) (call ∷ calls)
-    → (c.Follows call calls × IsSessionBy (Tells R) calls → IsReady call.from.mem)
+good_from : (R : List ℕ) (call : Call) (calls : List Call) → IsSessionBy (CallBrings R) (call ∷ calls)
+    → (c.Follows call calls × IsSessionBy (CallBrings R) calls → IsReady call.from.mem)
     → Good (is_awake call.routine) call.from.s (after call)
 good_from R call calls session ready =
     good_amid (is_awake call.routine) (is_table call calls) call.from.s session.0.s
@@ -268,13 +268,13 @@ good_from R call calls session ready =
     (begun call.routine call.from session.0 (unless call.routine session.3)) session.2
     (hard_session R call calls session)
   where
-    unless : (routine : Routine) → UnlessReset routine (c.Follows call calls × IsSessionBy (Tells R) calls)
+    unless : (routine : Routine) → UnlessReset routine (c.Follows call calls × IsSessionBy (CallBrings R) calls)
         → is_awake routine ≡ true → IsReady call.from.mem
     unless c.Reset is awake = absurd (cc)
     unless _ is awake = ready is
 
 -- and so after each call of a session
-pub good_call : (R : List ℕ) (call : Call) (calls : List Call) → IsSessionBy (Tells R) (call ∷ calls)
+pub good_call : (R : List ℕ) (call : Call) (calls : List Call) → IsSessionBy (CallBrings R) (call ∷ calls)
     → Good (is_awake call.routine) call.from.s (after call)
 good_call R call [] session = good_from R call [] session (λ two. absurd two.0)
 good_call R call (older ∷ calls) session = good_from R call (older ∷ calls) session (λ two.

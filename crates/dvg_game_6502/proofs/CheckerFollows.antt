@@ -8,7 +8,7 @@ use Rattle.dvg_game_rules.specs.Kinds.{Transfer, Stores, Push, PushFlags, Pull, 
 use Rattle.dvg_game_rules.specs.Kinds.{Wild, kind_of}
 use Rattle.dvg_game_rules.specs.Machine.{State, Choice, IsRun, steps, does, step, calling, restarting, restarts, is_driver}
 use Rattle.dvg_game_rules.specs.Machine.{called, driven, goes_home, is_own, resumed_at, returned, word_at, address}
-use Rattle.dvg_game_rules.specs.Alike.{AreAlike, IsOwn, idle, of_cpu}
+use Rattle.dvg_game_rules.specs.Alike.{IsOwn, MatchesCpu, idle, of_cpu}
 use Rattle.dvg_game_rules.proofs.StepsByKind.{steps_alike}
 use Rattle.dvg_game_rules.proofs.Facts.{both_true}
 use Rattle.dvg_game_rules.proofs.LocalKinds.{ticked}
@@ -20,7 +20,7 @@ is_finish Finish = true
 is_finish kind = false
 
 -- the machine with the processor's registers and memory is itself
-pub as_cpu : (st : State) (cpu : Cpu) → AreAlike st cpu → st ≡ of_cpu cpu st
+pub as_cpu : (st : State) (cpu : Cpu) → MatchesCpu st cpu → st ≡ of_cpu cpu st
 as_cpu st cpu alike = λ j. record st {
   a = alike.a j;
   x = alike.x j;
@@ -55,7 +55,7 @@ own _ cpu st calls out x y = tt
 pub record Followed (rom : ℕ → ℕ) (start : ℕ) (cpu new : Cpu) (st : State) : Type 0 where
   pub choice : Choice
   pub run : IsRun rom start (of_cpu new (step choice (of_cpu cpu st)))
-  pub alike : AreAlike (step choice (of_cpu cpu st)) new
+  pub alike : MatchesCpu (step choice (of_cpu cpu st)) new
 
 pub follow : (rom : ℕ → ℕ) (start : ℕ) (cpu : Cpu) (st : State) (flags : ℕ → ℕ) → IsRun rom start (of_cpu cpu st)
     → Play.restarts cpu ≡ false → calling (kind_of (cpu.mem cpu.pc)) (of_cpu cpu st) ≡ false

@@ -14,7 +14,7 @@ use Rattle.dvg_game_rules.specs.Safe.{IsSafe}
 use Rattle.dvg_game_rules.specs.Alike.{of_cpu}
 use Rattle.dvg_game_rules.proofs.Facts.{both_true}
 use Rattle.dvg_game_rules.proofs.Memory.{between}
-use Rattle.dvg_game_6502.specs.Play.{AreBytes, done, interrupted}
+use Rattle.dvg_game_6502.specs.Play.{IsByteWide, done, interrupted}
 use Rattle.dvg_game_6502.specs.Open.{IsIn, IsOpen}
 use Rattle.dvg_game_6502.specs.Stays.{Stays, is_written}
 use Rattle.dvg_game_6502.proofs.Bearers.{Bearer}
@@ -100,7 +100,7 @@ module _ {R : List ℕ} {B : Bearer R} {rom : ℕ → ℕ} {start : ℕ} (game :
       by (jsr is level one two) = omega (arith, level)
       by (jmp is level) = omega (arith, level)
 
-  pub driver_step : (flags : ℕ → ℕ) (v : B.World) → at_return d.s cpu ≡ false → AreBytes (done flags cpu)
+  pub driver_step : (flags : ℕ → ℕ) (v : B.World) → at_return d.s cpu ≡ false → IsByteWide (done flags cpu)
       → B.Makes (seen (done flags cpu).log) w v → InDriver R B rom start (done flags cpu) v
   driver_step flags v not_there bytes makes = record {
     st = d.st;

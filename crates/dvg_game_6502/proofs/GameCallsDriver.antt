@@ -9,7 +9,7 @@ use Rattle.dvg_calls_6502.specs.Processor.{Cpu}
 use Rattle.dvg_calls_6502.specs.Calls as calls_of
 use Rattle.dvg_calls_6502.specs.Calls.{Call, Routine, entry, frame_of, is_offered, UnlessReset}
 use Rattle.dvg_calls_6502.specs.Code.{dvg_offer, dvg_pair, dvg_put}
-use Rattle.dvg_calls_6502.specs.Programs.{Tells}
+use Rattle.dvg_calls_6502.specs.Programs.{CallBrings}
 use Rattle.dvg_calls_6502.specs.Routines.{Put, Labs, Vector}
 use Rattle.dvg_calls_6502.specs.Tables.{HasTable, table_of}
 use Rattle.dvg_game_rules.specs.Machine.{State, is_reset}
@@ -17,7 +17,7 @@ use Rattle.dvg_game_rules.specs.Checker.{goes_on}
 use Rattle.dvg_game_rules.specs.Safe.{IsCalled}
 use Rattle.dvg_game_rules.proofs.Facts.{both_true}
 use Rattle.dvg_game_rules.proofs.Memory.{either}
-use Rattle.dvg_game_6502.specs.Play.{AreBytes, fresh}
+use Rattle.dvg_game_6502.specs.Play.{IsByteWide, fresh}
 use Rattle.dvg_game_6502.specs.Open.{InRom, Rested}
 use Rattle.dvg_game_6502.specs.Games.{IsTable, IsWord}
 use Rattle.dvg_game_6502.proofs.Bearers.{IsChecked}
@@ -38,8 +38,8 @@ labs_words low high x_low x_high a one two three =
     (λ j. e1 j ∷ e2 j ∷ e3 j ∷ e4 j ∷ [])
 
 -- what each routine is told, by the frame that is being built
-module _ (R : List ℕ) (cpu : Cpu) (bytes : AreBytes cpu) where
-  puts_word : IsWord R cpu → (frame : Option (ℕ × List ℕ)) → NotBlank frame → Tells R (calls_of.Puts Put) cpu frame
+module _ (R : List ℕ) (cpu : Cpu) (bytes : IsByteWide cpu) where
+  puts_word : IsWord R cpu → (frame : Option (ℕ × List ℕ)) → NotBlank frame → CallBrings R (calls_of.Puts Put) cpu frame
   puts_word word None some = tt
   puts_word word (Some frame) some = λ room. (
     word.op,
@@ -49,11 +49,11 @@ module _ (R : List ℕ) (cpu : Cpu) (bytes : AreBytes cpu) where
     (λ none. absurd (omega (arith, some, none))),
   )
 
-  puts_vector : (frame : Option (ℕ × List ℕ)) → NotBlank frame → Tells R (calls_of.Puts Vector) cpu frame
+  puts_vector : (frame : Option (ℕ × List ℕ)) → NotBlank frame → CallBrings R (calls_of.Puts Vector) cpu frame
   puts_vector None some = tt
   puts_vector (Some frame) some = some
 
-  puts_labs : (frame : Option (ℕ × List ℕ)) → Tells R (calls_of.Puts Labs) cpu frame
+  puts_labs : (frame : Option (ℕ × List ℕ)) → CallBrings R (calls_of.Puts Labs) cpu frame
   puts_labs None = tt
   puts_labs (Some frame) = λ room.
       let low = bytes.mem 0x1B in let x_low = bytes.mem 0x1D in let a = bytes.a in (
@@ -65,7 +65,7 @@ module _ (R : List ℕ) (cpu : Cpu) (bytes : AreBytes cpu) where
         (λ none. tt),
       )
 
-  closes : (frame : Option (ℕ × List ℕ)) → NotBlank frame → Tells R calls_of.Close cpu frame
+  closes : (frame : Option (ℕ × List ℕ)) → NotBlank frame → CallBrings R calls_of.Close cpu frame
   closes None some = tt
   closes (Some frame) some = some
 
@@ -90,7 +90,7 @@ table_on rom mem t F low ends same has = record {
 pub record Picked (R : List ℕ) (rom : ℕ → ℕ) (new : Cpu) (calls : List Call) (to : ℕ) (blank : Bool) : Type 0 where
   pub routine : Routine
   pub at : to ≡ entry routine
-  pub tells : (flags : ℕ → ℕ) → Tells R routine (fresh flags new) (frame_of calls)
+  pub tells : (flags : ℕ → ℕ) → CallBrings R routine (fresh flags new) (frame_of calls)
   pub checked : IsChecked R routine
   pub offered : (b : ℕ) → is_offered routine new b ≡ true → InRom b
   pub rested : UnlessReset routine (Rested R calls new.mem)
@@ -100,10 +100,10 @@ unless : (routine : Routine) (P : Type 0) → P → UnlessReset routine P
 unless calls_of.Reset P p = tt
 unless routine P p = p
 
-same_bytes : (flags : ℕ → ℕ) (cpu : Cpu) → AreBytes cpu → AreBytes (fresh flags cpu)
+same_bytes : (flags : ℕ → ℕ) (cpu : Cpu) → IsByteWide cpu → IsByteWide (fresh flags cpu)
 same_bytes flags cpu bytes = record { a = bytes.a; x = bytes.x; y = bytes.y; s = bytes.s; mem = bytes.mem }
 
-module _ (R : List ℕ) (rom : ℕ → ℕ) (new : Cpu) (bytes : AreBytes new) (calls : List Call) (st : State) (to : ℕ)
+module _ (R : List ℕ) (rom : ℕ → ℕ) (new : Cpu) (bytes : IsByteWide new) (calls : List Call) (st : State) (to : ℕ)
     (called : IsCalled st to) (rests : st.awake ≡ true → Rests R calls new.mem st.blank)
     (in_rom : (b : ℕ) → 0x4800 ≤ b → b < 0x8000 → new.mem b ≡ rom b)
     (tables : to ≡ dvg_offer → IsTable R rom new) (words : to ≡ dvg_put → IsWord R new) (no_pair : to ≡ dvg_pair
@@ -133,7 +133,7 @@ module _ (R : List ℕ) (rom : ℕ → ℕ) (new : Cpu) (bytes : AreBytes new) (
 
   -- a routine but dvg_reset, and one that no frame is brought to
   goes : (routine : Routine) → is_reset (entry routine) ≡ false
-      → ((flags : ℕ → ℕ) → Tells R routine (fresh flags new) (frame_of calls)) → IsChecked R routine
+      → ((flags : ℕ → ℕ) → CallBrings R routine (fresh flags new) (frame_of calls)) → IsChecked R routine
       → ((b : ℕ) → is_offered routine new b ≡ true → InRom b) → to ≡ entry routine → Picked R rom new calls to st.blank
   goes routine other tells checked offered at = record {
     routine = routine;
@@ -146,7 +146,7 @@ module _ (R : List ℕ) (rom : ℕ → ℕ) (new : Cpu) (bytes : AreBytes new) (
   }
 
   plain : (routine : Routine) → is_reset (entry routine) ≡ false
-      → ((flags : ℕ → ℕ) → Tells R routine (fresh flags new) (frame_of calls)) → IsChecked R routine
+      → ((flags : ℕ → ℕ) → CallBrings R routine (fresh flags new) (frame_of calls)) → IsChecked R routine
       → ((b : ℕ) → is_offered routine new b ≡ false) → to ≡ entry routine → Picked R rom new calls to st.blank
   plain routine other tells checked none at =
       goes routine other tells checked (λ b is. absurd (let e = sym (none b) ∙ is in cc)) at

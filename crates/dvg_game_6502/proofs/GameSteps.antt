@@ -19,7 +19,7 @@ use Rattle.dvg_game_rules.proofs.Between.{leaves_alone}
 use Rattle.dvg_game_rules.proofs.Facts.{both_true, inside}
 use Rattle.dvg_game_rules.proofs.Memory.{between, either, other}
 use Rattle.dvg_game_6502.specs.Play
-use Rattle.dvg_game_6502.specs.Play.{AreBytes, Begins, done, interrupted, made}
+use Rattle.dvg_game_6502.specs.Play.{Begins, IsByteWide, done, interrupted, made}
 use Rattle.dvg_game_6502.specs.Open.{InRom, Rested}
 use Rattle.dvg_game_6502.proofs.CheckerFollows.{along, Followed, follow, homeless, restarts_same}
 use Rattle.dvg_game_6502.proofs.Bearers.{Bearer}
@@ -97,7 +97,7 @@ flags_small asked cpu =
     let c = bit_small cpu.c in
     omega (arith, b, n, v, d, i, z, c)
 
-pub bytes_pushed : (cpu : Cpu) → AreBytes cpu → cpu.pc < 65536 → AreBytes (interrupted cpu)
+pub bytes_pushed : (cpu : Cpu) → IsByteWide cpu → cpu.pc < 65536 → IsByteWide (interrupted cpu)
 bytes_pushed cpu bytes low = record {
   a = bytes.a;
   x = bytes.x;
@@ -207,7 +207,7 @@ module _ {R : List ℕ} {B : Bearer R} {rom : ℕ → ℕ} {start : ℕ} (game :
   nowhere = outside_code cpu.pc safe.inside
 
   pub game_steps : (flags : ℕ → ℕ) → Play.restarts cpu ≡ false → calling (kind_of (cpu.mem cpu.pc)) here ≡ false
-      → AreBytes (done flags cpu) → InGame R B rom start (done flags cpu) (suc since) w
+      → IsByteWide (done flags cpu) → InGame R B rom start (done flags cpu) (suc since) w
   game_steps flags go calls bytes = record {
     st = new;
     run = did.run;

@@ -20,7 +20,7 @@ use Rattle.dvg_calls_6502.specs.Board.{byte1_place, is_hardware, seen}
 use Rattle.dvg_calls_6502.specs.Tables.{table_of}
 use Rattle.dvg_calls_6502.specs.Calls as c
 use Rattle.dvg_calls_6502.specs.Calls.{Routine, Call, after, is_taken, Adds, AreShown, IsLifeOf, IsSession, IsSessionBy}
-use Rattle.dvg_calls_6502.specs.Programs.{Tells, renamed, with_drafts}
+use Rattle.dvg_calls_6502.specs.Programs.{CallBrings, renamed, with_drafts}
 use Rattle.dvg_calls_6502.proofs.Programs.{hindsight}
 use Rattle.dvg_calls_6502.proofs.Sessions.{calls_live, head_same}
 use Rattle.dvg_game_6502.proofs.Claims.{AreHard}
@@ -252,7 +252,7 @@ hard_of call calls session =
     hard_adds call.routine call is.0 is.3 (ram_first is.0 is.1 (subst AllInRam is.2 near.1))
 
 -- so is what a program's calls write
-pub hard_session : (R : List ℕ) (call : Call) (calls : List Call) → IsSessionBy (Tells R) (call ∷ calls)
+pub hard_session : (R : List ℕ) (call : Call) (calls : List Call) → IsSessionBy (CallBrings R) (call ∷ calls)
     → AreHard (after call).log
 hard_session R call calls session = let named =
     hindsight R (call ∷ calls) session in by named.0 named.1

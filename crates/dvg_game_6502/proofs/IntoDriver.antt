@@ -19,7 +19,7 @@ use Rattle.dvg_game_rules.specs.Safe as safes
 use Rattle.dvg_game_rules.specs.Alike.{of_cpu}
 use Rattle.dvg_game_rules.proofs.Memory.{here as put_here, other}
 use Rattle.dvg_game_6502.specs.Play
-use Rattle.dvg_game_6502.specs.Play.{AreBytes, done, fresh}
+use Rattle.dvg_game_6502.specs.Play.{IsByteWide, done, fresh}
 use Rattle.dvg_game_6502.specs.Games.{IsTable, IsWord}
 use Rattle.dvg_game_6502.proofs.CheckerFollows.{restarts_same}
 use Rattle.dvg_game_6502.proofs.Bearers.{Bearer}
@@ -39,7 +39,7 @@ entry_there (calls_of.Puts Vector) = refl
 entry_there _ = refl
 
 -- the driver's bytes, one by one
-byte_at : (bytes : List ℕ) (mem : ℕ → ℕ) (at : ℕ) → safes.AreBytes bytes mem at → (i : ℕ) → i < length bytes
+byte_at : (bytes : List ℕ) (mem : ℕ → ℕ) (at : ℕ) → safes.BytesLieAt bytes mem at → (i : ℕ) → i < length bytes
     → mem (at + i) ≡ slice_index bytes i
 byte_at [] mem at are i less = absurd (omega (arith, less))
 byte_at (byte ∷ bytes) mem at are zero less = ap mem (let e : at + 0 ≡ at = omega arith in e) ∙ are.0
@@ -66,7 +66,7 @@ module _ {R : List ℕ} {B : Bearer R} {rom : ℕ → ℕ} {start : ℕ} (game :
 
   -- what the processor is at the entry
   record Entered (new : Cpu) : Type 0 where
-    bytes : AreBytes new
+    bytes : IsByteWide new
     pc : new.pc ≡ to
     off : (b : ℕ) → (b < 0x100) ⊎ (0x100 + cpu.s < b) → new.mem b ≡ cpu.mem b
     back : Back here new.mem new.s
@@ -142,7 +142,7 @@ module _ {R : List ℕ} {B : Bearer R} {rom : ℕ → ℕ} {start : ℕ} (game :
   word_is : processor.word_at cpu.mem (cpu.pc + 1) (cpu.pc + 2) ≡ to
   word_is = ap (λ q. cpu.mem (cpu.pc + 1) + 256 * cpu.mem q) (let e : cpu.pc + 2 ≡ cpu.pc + 1 + 1 = omega arith in e)
 
-  module _ (flags : ℕ → ℕ) (bytes : AreBytes (done flags cpu)) (tables : to ≡ dvg_offer → IsTable R rom cpu)
+  module _ (flags : ℕ → ℕ) (bytes : IsByteWide (done flags cpu)) (tables : to ≡ dvg_offer → IsTable R rom cpu)
       (words : to ≡ dvg_put → IsWord R cpu) (no_pair : to ≡ dvg_pair → ⊥) where
     abbrev jsr_done : Cpu
     jsr_done = does processor.Call (fresh flags cpu)
@@ -152,7 +152,7 @@ module _ {R : List ℕ} {B : Bearer R} {rom : ℕ → ℕ} {start : ℕ} (game :
 
     by_jsr : kind_of (cpu.mem cpu.pc) ≡ kinds.Call → InDriver R B rom start (done flags cpu) w
     by_jsr kind = subst (λ k. InDriver R B rom start k w) (sym same) (enter jsr_done (record {
-      bytes = subst AreBytes same bytes;
+      bytes = subst IsByteWide same bytes;
       pc = word_is;
       off = λ b off. other (stack_place (cpu.s + 255)) ((cpu.pc + 2) % 256) one b (apart (cpu.s + 255) (omega
           (arith, few, small)) b off)
@@ -190,7 +190,7 @@ module _ {R : List ℕ} {B : Bearer R} {rom : ℕ → ℕ} {start : ℕ} (game :
 
     by_jmp : kind_of (cpu.mem cpu.pc) ≡ kinds.Jump → InDriver R B rom start (done flags cpu) w
     by_jmp kind = subst (λ k. InDriver R B rom start k w) (sym same) (enter jmp_done (record {
-      bytes = subst AreBytes same bytes;
+      bytes = subst IsByteWide same bytes;
       pc = word_is;
       off = λ b off. refl;
       back = jmp kind refl;

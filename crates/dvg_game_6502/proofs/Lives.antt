@@ -3,7 +3,7 @@ use Rattle.std.proofs.Common.{◌≡◌, inl, inr, List, [], ◌∷◌, ◌++◌
 use Rattle.dvg_frame.specs.declared.op.OpKind.{OpKind}
 use Rattle.dvg_calls_6502.specs.Board.{seen}
 use Rattle.dvg_calls_6502.specs.Calls.{Call, after, IsSessionBy}
-use Rattle.dvg_calls_6502.specs.Programs.{Tells, with_drafts}
+use Rattle.dvg_calls_6502.specs.Programs.{CallBrings, with_drafts}
 use Rattle.dvg_calls_6502.proofs.Programs.{hindsight}
 use Rattle.dvg_calls_6502.proofs.Sessions.{calls_live}
 use Rattle.dvg_game_6502.specs.Games.{Lives, CallsLiveOn, accesses_of}
@@ -19,7 +19,7 @@ pub calls_live_on : CallsLiveOn
 calls_live_on R log (inl none) = inl none
 calls_live_on R log (inr are) = inr (lives are.0 are.1 are.2)
   where
-    lives : (calls : List Call) → IsSessionBy (Tells R) calls → accesses_of calls ≡ log → Lives R log
+    lives : (calls : List Call) → IsSessionBy (CallBrings R) calls → accesses_of calls ≡ log → Lives R log
     lives calls session same =
         let named = hindsight R calls session in
         let made = calls_live (with_drafts calls named.0) named.1 in

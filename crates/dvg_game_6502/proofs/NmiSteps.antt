@@ -17,7 +17,7 @@ use Rattle.dvg_game_rules.proofs.Facts.{inside}
 use Rattle.dvg_game_rules.proofs.Early.{same_came}
 use Rattle.dvg_game_rules.proofs.LocalKinds.{ticked}
 use Rattle.dvg_game_6502.specs.Play
-use Rattle.dvg_game_6502.specs.Play.{AreBytes, done, fresh}
+use Rattle.dvg_game_6502.specs.Play.{IsByteWide, done, fresh}
 use Rattle.dvg_game_6502.proofs.CheckerFollows.{Followed, along, amid_stays, follow, is_finish, restarts_same}
 use Rattle.dvg_game_6502.proofs.Bearers.{Bearer}
 use Rattle.dvg_game_6502.proofs.DriverSteps.{two_levels}
@@ -95,7 +95,7 @@ module _ {R : List ℕ} {B : Bearer R} {rom : ℕ → ℕ} {start : ℕ} (game :
           absurd (let e = sym n.amid ∙ out in cc)
 
   pub nmi_steps : (flags : ℕ → ℕ) → Play.restarts cpu ≡ false → is_finish (kind_of (cpu.mem cpu.pc)) ≡ false
-      → AreBytes (done flags cpu) → InNmi R B rom start (done flags cpu) (suc since) w
+      → IsByteWide (done flags cpu) → InNmi R B rom start (done flags cpu) (suc since) w
   nmi_steps flags go more bytes = record {
     outer = n.outer;
     driver = d;
@@ -208,7 +208,7 @@ module _ {R : List ℕ} {B : Bearer R} {rom : ℕ → ℕ} {start : ℕ} (game :
         (omega (arith, level, most)) refl) (stack_inside (d.s + 2) (omega (arith, level, most))) ∙ two)
     kept_back (jmp is level) = jmp (ap kind_of opcode ∙ is) level
 
-    pub nmi_ends : (flags : ℕ → ℕ) → AreBytes (resumed flags) → InDriver R B rom start (resumed flags) w
+    pub nmi_ends : (flags : ℕ → ℕ) → IsByteWide (resumed flags) → InDriver R B rom start (resumed flags) w
     nmi_ends flags bytes = record {
       st = again;
       run = again_run;

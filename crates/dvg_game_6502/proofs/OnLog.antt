@@ -4,7 +4,7 @@ use Rattle.dvg_calls_6502.specs.Processor.{Cpu, Access, at_return}
 use Rattle.dvg_calls_6502.specs.Amid.{is_code}
 use Rattle.dvg_calls_6502.specs.Board.{seen}
 use Rattle.dvg_calls_6502.specs.Calls.{Routine, Call, IsSessionBy}
-use Rattle.dvg_calls_6502.specs.Programs.{Tells}
+use Rattle.dvg_calls_6502.specs.Programs.{CallBrings}
 use Rattle.dvg_game_6502.specs.Play.{IsPlay, begins, does, nmi, turns, done}
 use Rattle.dvg_game_6502.specs.Open.{IsIn, IsOpen}
 use Rattle.dvg_game_6502.specs.Games.{AreOfCalls, GamesCall, VectorsCall, accesses_of}
@@ -19,7 +19,7 @@ use Rattle.dvg_game_6502.proofs.Stages.{InDriver, InGame, IsAccepted, Stage}
 
 -- these are the accesses of these calls
 abbrev pub AreLogged : List ℕ → List Call → List Access → Type 0
-AreLogged R calls log = (accesses_of calls ≡ log) × ((calls ≡ []) ⊎ IsSessionBy (Tells R) calls)
+AreLogged R calls log = (accesses_of calls ≡ log) × ((calls ≡ []) ⊎ IsSessionBy (CallBrings R) calls)
 
 -- the call ends at its RTS
 pub returns : (R : List ℕ) (routine : Routine) (s : ℕ) (calls : List Call) (cpu : Cpu) (mine log : List Access)
@@ -86,7 +86,7 @@ module _ (R : List ℕ) (rom : ℕ → ℕ) (start : ℕ) (game : IsAccepted rom
   of_game : {cpu : Cpu} {since : ℕ} {log : List Access} → InGame R (on_log R) rom start cpu since log → AreOfCalls R log
   of_game {cpu} {since} {log} g = by g.between.1
     where
-      by : (g.calls ≡ []) ⊎ IsSessionBy (Tells R) g.calls → AreOfCalls R log
+      by : (g.calls ≡ []) ⊎ IsSessionBy (CallBrings R) g.calls → AreOfCalls R log
       by (inl none) = inl (sym g.between.0 ∙ ap accesses_of none)
       by (inr session) = inr (g.calls, session, g.between.0)
 

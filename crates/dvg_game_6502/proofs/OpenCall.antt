@@ -9,7 +9,7 @@ use Rattle.dvg_calls_6502.specs.Amid.{changed, guards, is_code, is_kept}
 use Rattle.dvg_calls_6502.specs.Calls as calls_of
 use Rattle.dvg_calls_6502.specs.Calls.{Routine, after, bounds, call_of, entry, frame_of, has_returned, is_offered, is_table}
 use Rattle.dvg_calls_6502.specs.Calls.{UnlessReset}
-use Rattle.dvg_calls_6502.specs.Programs.{Tells}
+use Rattle.dvg_calls_6502.specs.Programs.{CallBrings}
 use Rattle.dvg_calls_6502.specs.Routines.{Enters}
 use Rattle.dvg_calls_6502.proofs.Steady.{code_kept}
 use Rattle.dvg_game_rules.proofs.Facts.{both_true}
@@ -98,7 +98,7 @@ module _ {R : List ℕ} {routine : Routine} {s : ℕ} {calls : List calls_of.Cal
 module _ (R : List ℕ) (routine : Routine) (cpu : Cpu) (calls : List calls_of.Call)
     (rested : UnlessReset routine (Rested R calls cpu.mem))
     (enters : (flags : ℕ → ℕ) → Enters (fresh flags cpu) (entry routine))
-    (tells : (flags : ℕ → ℕ) → Tells R routine (fresh flags cpu) (frame_of calls))
+    (tells : (flags : ℕ → ℕ) → CallBrings R routine (fresh flags cpu) (frame_of calls))
     (table : (b : ℕ) → (bounds calls).0 ≤ b → b < (bounds calls).1 → InRom b)
     (offered : (b : ℕ) → is_offered routine cpu b ≡ true → InRom b) (flags : ℕ → ℕ) where
   is_offered_same : (r : Routine) (t : Bool) (b : ℕ)

@@ -11,7 +11,7 @@ use Rattle.dvg_game_rules.specs.Machine.{State, IsTurned, is_outside, turns}
 use Rattle.dvg_game_rules.proofs.Facts.{both_true}
 use Rattle.dvg_game_rules.proofs.Memory.{between, either}
 use Rattle.dvg_game_rules.proofs.OutsideTurns.{low_inside, readable_inside, rom_inside}
-use Rattle.dvg_game_6502.specs.Play.{AreBytes}
+use Rattle.dvg_game_6502.specs.Play.{IsByteWide}
 use Rattle.dvg_game_6502.specs.Open.{InRom}
 use Rattle.dvg_game_6502.proofs.Bearers.{Bearer}
 use Rattle.dvg_game_6502.proofs.GameSteps.{rested_on}
@@ -64,7 +64,7 @@ guard_is_inside tables in_rom s now b is = one (either (is_kept tables b) _ is)
     one (inr more) = stack (either (nat_eq b (stack_place (now + 1))) _ (both_true (not (nat_eq now s)) _ more).1)
 
 -- memory alone is other
-pub other_bytes : (cpu : Cpu) (mem : ℕ → ℕ) → AreBytes cpu → ((b : ℕ) → mem b < 256) → AreBytes (changed mem cpu)
+pub other_bytes : (cpu : Cpu) (mem : ℕ → ℕ) → IsByteWide cpu → ((b : ℕ) → mem b < 256) → IsByteWide (changed mem cpu)
 other_bytes cpu mem bytes small = record { a = bytes.a; x = bytes.x; y = bytes.y; s = bytes.s; mem = small }
 
 -- where the driver returns to stands on the stack

@@ -13,7 +13,7 @@ use Rattle.dvg_game_rules.specs.Safe.{IsSafe}
 use Rattle.dvg_game_rules.specs.Alike.{idle, of_cpu}
 use Rattle.dvg_game_rules.proofs.Facts.{both_true, under}
 use Rattle.dvg_game_6502.specs.Play
-use Rattle.dvg_game_6502.specs.Play.{AreBytes, IsPlay, done, interrupted, made}
+use Rattle.dvg_game_6502.specs.Play.{IsByteWide, IsPlay, done, interrupted, made}
 use Rattle.dvg_game_6502.specs.Games.{Content, Enters, IsTable, IsWord, calls_at, may_call, never_calls}
 use Rattle.dvg_game_6502.proofs.CheckerFollows.{calls_as, is_finish}
 use Rattle.dvg_game_6502.proofs.Bearers.{Bearer}
@@ -125,13 +125,13 @@ module _ (R : List ℕ) (B : Bearer R) {rom : ℕ → ℕ} {start : ℕ} (game :
         told place = subst (λ l. B.Makes l w v) (ap (λ (t : Bool). if t then seen (done flags cpu).log else
             []) place) makes
 
-        in_game : (g : InGame R B rom start cpu since w) → AreBytes (done flags cpu) → (t : Bool)
+        in_game : (g : InGame R B rom start cpu since w) → IsByteWide (done flags cpu) → (t : Bool)
             → calling (kind_of (cpu.mem cpu.pc)) (of_cpu cpu g.st) ≡ t → After flags cpu since w
         in_game g bytes false is = inl (game_steps game g flags go is bytes)
         in_game g bytes true is = let brings = brought cpu since log w play g go is in
             inr (inl (game_calls game g go is flags bytes brings.0 brings.1 brings.2))
 
-        in_driver : (d : InDriver R B rom start cpu w) → AreBytes (done flags cpu) → (t : Bool)
+        in_driver : (d : InDriver R B rom start cpu w) → IsByteWide (done flags cpu) → (t : Bool)
             → at_return d.s cpu ≡ t → After flags cpu since v
         in_driver d bytes false is = inr (inl (driver_step game d flags v is bytes (told d.place)))
         in_driver d bytes true is =
@@ -139,17 +139,17 @@ module _ (R : List ℕ) (B : Bearer R) {rom : ℕ → ℕ} {start : ℕ} (game :
             subst (After flags cpu since) (B.nothing w v (subst (λ (k : Cpu). B.Makes (seen k.log) w v) same
             (told d.place)))
             (inl (subst (λ k. InGame R B rom start k (suc since) w) (sym same)
-            (driver_returns game d is since flags (subst AreBytes same bytes))))
+            (driver_returns game d is since flags (subst IsByteWide same bytes))))
 
-        in_nmi : (n : InNmi R B rom start cpu since w) → AreBytes (done flags cpu) → (t : Bool)
+        in_nmi : (n : InNmi R B rom start cpu since w) → IsByteWide (done flags cpu) → (t : Bool)
             → is_finish (kind_of (cpu.mem cpu.pc)) ≡ t → After flags cpu since w
         in_nmi n bytes false is = inr (inr (nmi_steps game n flags go is bytes))
         in_nmi n bytes true is =
             let same = comes_back game n go is flags in
             inr (inl (subst (λ k. InDriver R B rom start k w) (sym same)
-            (nmi_ends game n go is flags (subst AreBytes same bytes))))
+            (nmi_ends game n go is flags (subst IsByteWide same bytes))))
 
-        by : Stage R B rom start cpu since w → AreBytes (done flags cpu) → After flags cpu since v
+        by : Stage R B rom start cpu since w → IsByteWide (done flags cpu) → After flags cpu since v
         by (inl g) bytes = subst (After flags cpu since) (aside (nowhere game g))
             (in_game g bytes (calling (kind_of (cpu.mem cpu.pc)) (of_cpu cpu g.st)) refl)
         by (inr (inl d)) bytes = in_driver d bytes (at_return d.s cpu) refl

@@ -20,11 +20,11 @@ use Rattle.dvg_game_rules.specs.Kinds as kinds
 use Rattle.dvg_game_rules.specs.Machine.{Choice, State, IsRun, blank_after, calling, driven, is_driver, left_by, returned}
 use Rattle.dvg_game_rules.specs.Machine.{step, steps, called, word_at}
 use Rattle.dvg_game_rules.specs.Machine as machine
-use Rattle.dvg_game_rules.specs.Alike.{AreAlike, of_cpu}
+use Rattle.dvg_game_rules.specs.Alike.{MatchesCpu, of_cpu}
 use Rattle.dvg_game_rules.proofs.Facts.{both_true, inside}
 use Rattle.dvg_game_rules.proofs.LocalKinds.{ticked}
 use Rattle.dvg_game_rules.proofs.Memory.{either}
-use Rattle.dvg_game_6502.specs.Play.{AreBytes, done, fresh}
+use Rattle.dvg_game_6502.specs.Play.{IsByteWide, done, fresh}
 use Rattle.dvg_game_6502.specs.Open.{IsIn}
 use Rattle.dvg_game_6502.proofs.CheckerFollows.{as_cpu}
 use Rattle.dvg_game_6502.proofs.Bearers.{Bearer, Ended}
@@ -185,7 +185,7 @@ module _ {R : List ℕ} {B : Bearer R} {rom : ℕ → ℕ} {start : ℕ} (game :
       high = ap (λ s. cpu.mem (stack_place (s + 2))) level
           ∙ ap cpu.mem (let e : stack_place (d.s + 2) ≡ 0x100 + (d.s + 2) = omega (arith, small) in e) ∙ two
 
-      alike : AreAlike new ret
+      alike : MatchesCpu new ret
       alike = record {
         a = refl;
         x = refl;
@@ -223,7 +223,7 @@ module _ {R : List ℕ} {B : Bearer R} {rom : ℕ → ℕ} {start : ℕ} (game :
       s_is : d.st.s ≡ cpu.s
       s_is = sym same ∙ sym level
 
-      alike : AreAlike new ret
+      alike : MatchesCpu new ret
       alike = record {
         a = refl;
         x = refl;
@@ -266,7 +266,7 @@ module _ {R : List ℕ} {B : Bearer R} {rom : ℕ → ℕ} {start : ℕ} (game :
       (sym end.routine_is)
       ∙ covers end.last.routine end.last (bounds d.calls) b low high
 
-  pub driver_returns : AreBytes ret → InGame R B rom start ret (suc since) w
+  pub driver_returns : IsByteWide ret → InGame R B rom start ret (suc since) w
   driver_returns bytes = record {
     st = came.st;
     run = came.run;

@@ -7,7 +7,7 @@ use Rattle.dvg_calls_6502.specs.Board.{is_own, is_ram}
 use Rattle.dvg_calls_6502.specs.Routines.{Enters}
 use Rattle.dvg_calls_6502.specs.Calls.{Routine, Reset, Tick, Ticks, Run, Offer, Redraw, Open, Puts, Close, Call, after}
 use Rattle.dvg_calls_6502.specs.Calls.{entry, frame_of, is_table, Follows, IsSessionBy, UnlessReset}
-use Rattle.dvg_calls_6502.specs.Programs.{Tells}
+use Rattle.dvg_calls_6502.specs.Programs.{CallBrings}
 use Rattle.dvg_game_6502.specs.Open.{Rested}
 use Rattle.dvg_game_6502.proofs.NextMemory.{and_then, grows, spared}
 
@@ -18,9 +18,9 @@ further call m = record call { steps = suc call.steps; others = and_then call.st
 pub further_turns : (call : Call) (m : ℕ → ℕ) → after (further call m) ≡ turn call.from.s (changed m (after call))
 further_turns call m = grows call.from.s call.steps call.others m call.from
 
-pub session_goes_on : (R : List ℕ) (call : Call) (calls : List Call) (m : ℕ → ℕ) → IsSessionBy (Tells R) (call ∷ calls)
+pub session_goes_on : (R : List ℕ) (call : Call) (calls : List Call) (m : ℕ → ℕ) → IsSessionBy (CallBrings R) (call ∷ calls)
     → ((b : ℕ) → guards (is_kept (is_table call calls)) call.from.s (after call).s b ≡ true → m b ≡ (after call).mem b)
-    → IsSessionBy (Tells R) (further call m ∷ calls)
+    → IsSessionBy (CallBrings R) (further call m ∷ calls)
 session_goes_on R call calls m session same = (
   session.0,
   session.1,
@@ -35,7 +35,7 @@ unless_map _ P Q f is = f is
 
 -- the newest call is followed by one that begins with this memory
 follows : (R : List ℕ) (call : Call) (calls : List Call) → Rested R calls call.from.mem
-    → Follows call calls × IsSessionBy (Tells R) calls
+    → Follows call calls × IsSessionBy (CallBrings R) calls
 follows R call [] rested = absurd rested
 follows R call (older ∷ calls) rested = (
   (
@@ -51,13 +51,13 @@ follows R call (older ∷ calls) rested = (
 
 pub session_begins : (R : List ℕ) (routine : Routine) (from : Cpu) (others : ℕ → ℕ → ℕ) (calls : List Call)
     → UnlessReset routine (Rested R calls from.mem) → Enters from (entry routine)
-    → Tells R routine from (frame_of calls)
-    → IsSessionBy (Tells R) (record { routine = routine; from = from; steps = 0; others = others } ∷ calls)
+    → CallBrings R routine from (frame_of calls)
+    → IsSessionBy (CallBrings R) (record { routine = routine; from = from; steps = 0; others = others } ∷ calls)
 session_begins R routine from others calls rested enters brought =
     let call : Call = record { routine = routine; from = from; steps = 0; others = others } in (
       enters,
       brought,
       tt,
-      unless_map routine (Rested R calls from.mem) (Follows call calls × IsSessionBy (Tells R) calls)
+      unless_map routine (Rested R calls from.mem) (Follows call calls × IsSessionBy (CallBrings R) calls)
           (follows R call calls) rested,
     )

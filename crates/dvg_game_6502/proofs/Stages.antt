@@ -10,7 +10,7 @@ use Rattle.dvg_game_rules.specs.Checker.{Notes, accepts}
 use Rattle.dvg_game_rules.specs.Safe.{IsSafe}
 use Rattle.dvg_game_rules.specs.Alike.{of_cpu}
 use Rattle.dvg_game_rules.proofs.RunsAreSafe.{checked_is_safe}
-use Rattle.dvg_game_6502.specs.Play.{AreBytes}
+use Rattle.dvg_game_6502.specs.Play.{IsByteWide}
 use Rattle.dvg_game_6502.specs.Open.{InRom, Rested}
 use Rattle.dvg_game_6502.specs.Interrupt.{IsSpared}
 use Rattle.dvg_game_6502.proofs.Bearers.{Bearer}
@@ -40,7 +40,7 @@ pub record InGame (R : List ℕ) (B : Bearer R) (rom : ℕ → ℕ) (start : ℕ
     pub run : IsRun rom start (of_cpu cpu st)
     pub homeless : st.home ≡ None
     pub time : st.since ≡ since
-    pub bytes : AreBytes cpu
+    pub bytes : IsByteWide cpu
     pub calls : List Call
     pub between : B.Between calls cpu.mem w
     pub tables : (b : ℕ) → (bounds calls).0 ≤ b → b < (bounds calls).1 → InRom b
@@ -73,7 +73,7 @@ pub record InDriver (R : List ℕ) (B : Bearer R) (rom : ℕ → ℕ) (start : �
   pub place : is_code cpu.pc ≡ true
   pub rom_kept : (b : ℕ) → 0x4800 ≤ b → b < 0x8000 → cpu.mem b ≡ rom b
   pub stack_kept : (b : ℕ) → 0x100 + st.s < b → b < 0x200 → cpu.mem b ≡ st.mem b
-  pub bytes : AreBytes cpu
+  pub bytes : IsByteWide cpu
   pub frame : UnlessReset routine (st.blank ≡ false → NotBlank (frame_of calls))
 
 -- in an NMI that came amid a call of the driver
@@ -94,7 +94,7 @@ pub record InNmi (R : List ℕ) (B : Bearer R) (rom : ℕ → ℕ) (start : ℕ)
   })
   pub home : st.home ≡ Some (driver.st.pc, driver.st.s)
   pub blank : st.blank ≡ driver.st.blank
-  pub bytes : AreBytes cpu
+  pub bytes : IsByteWide cpu
   pub kept : (b : ℕ) → IsSpared outer.s b → is_outside b ≡ false → cpu.mem b ≡ outer.mem b
 
 abbrev pub Stage : (R : List ℕ) (B : Bearer R) (rom : ℕ → ℕ) (start : ℕ) → Cpu → ℕ → B.World → Type 0

@@ -11,7 +11,7 @@ use Rattle.dvg_calls_6502.specs.Build.{IsPut}
 use Rattle.dvg_driver.specs.Script.{Item, IsLife}
 use Rattle.dvg_calls_6502.specs.Calls.{Call, after, IsLifeOf, IsSession, IsSessionBy}
 use Rattle.dvg_calls_6502.specs.Code.{dvg_offer, dvg_pair, dvg_put}
-use Rattle.dvg_calls_6502.specs.Programs.{AreBuilt, Tells}
+use Rattle.dvg_calls_6502.specs.Programs.{AreBuilt, CallBrings}
 use Rattle.dvg_calls_6502.specs.Tables.{HasTable, table_of}
 use Rattle.dvg_game_rules.specs.Alike.{idle}
 use Rattle.dvg_game_rules.specs.Checker.{Notes, accepts, all_under, first, places}
@@ -70,7 +70,7 @@ accesses_of (call ∷ calls) = seen (after call).log ++ accesses_of calls
 
 -- these are the accesses of a session of calls, or of none
 abbrev pub AreOfCalls : List ℕ → List Access → Type 0
-AreOfCalls R log = (log ≡ []) ⊎ ((calls : List Call) × IsSessionBy (Tells R) calls × (accesses_of calls ≡ log))
+AreOfCalls R log = (log ≡ []) ⊎ ((calls : List Call) × IsSessionBy (CallBrings R) calls × (accesses_of calls ≡ log))
 
 -- then there are drafts, of what was built, with which they are a session of the driver's laws: with the frames that
 -- were taken they are a life of the driver's script

@@ -6,7 +6,7 @@ use Rattle.dvg_calls_6502.specs.Board.{is_own, is_ram}
 use Rattle.dvg_calls_6502.specs.Routines.{Enters}
 use Rattle.dvg_calls_6502.specs.Calls.{Routine, Call, after, bounds, entry, frame_of, is_offered, is_over, is_table}
 use Rattle.dvg_calls_6502.specs.Calls.{IsSessionBy, UnlessReset}
-use Rattle.dvg_calls_6502.specs.Programs.{Tells}
+use Rattle.dvg_calls_6502.specs.Programs.{CallBrings}
 use Rattle.dvg_game_6502.specs.Play.{done, fresh}
 
 -- an address of the ROM, 4800 to 7FFF
@@ -18,7 +18,7 @@ InRom b = (0x4800 ≤ b) × (b < 0x8000)
 pub record IsIn (R : List ℕ) (routine : Routine) (s : ℕ) (calls : List Call) (cpu : Cpu) (log : List Access)
     (flags : ℕ → ℕ) : Type 0 where
   pub call : Call
-  pub session : IsSessionBy (Tells R) (call ∷ calls)
+  pub session : IsSessionBy (CallBrings R) (call ∷ calls)
   pub routine_is : call.routine ≡ routine
   pub level : call.from.s ≡ s
   pub in_rom : (b : ℕ) → is_table call calls b ≡ true → InRom b
@@ -33,7 +33,7 @@ IsOpen R routine s calls cpu log = (flags : ℕ → ℕ) → IsIn R routine s ca
 -- the newest call is over, and since then nobody wrote the driver's bytes, the vector RAM, or the table that was taken
 abbrev pub Rested : List ℕ → List Call → (ℕ → ℕ) → Type 0
 Rested R [] mem = ⊥
-Rested R (older ∷ calls) mem = IsSessionBy (Tells R) (older ∷ calls) × (is_over older ≡ true)
+Rested R (older ∷ calls) mem = IsSessionBy (CallBrings R) (older ∷ calls) × (is_over older ≡ true)
     × ((b : ℕ) → (is_own b || is_ram b) ≡ true → mem b ≡ (after older).mem b)
     × ((b : ℕ) → (bounds (older ∷ calls)).0 ≤ b → b < (bounds (older ∷ calls)).1 → mem b ≡ (after older).mem b)
 
@@ -42,7 +42,7 @@ abbrev pub DriverBegins : Type 0
 DriverBegins = (R : List ℕ) (routine : Routine) (cpu : Cpu) (calls : List Call)
     → UnlessReset routine (Rested R calls cpu.mem)
     → ((flags : ℕ → ℕ) → Enters (fresh flags cpu) (entry routine))
-    → ((flags : ℕ → ℕ) → Tells R routine (fresh flags cpu) (frame_of calls))
+    → ((flags : ℕ → ℕ) → CallBrings R routine (fresh flags cpu) (frame_of calls))
     → ((b : ℕ) → (bounds calls).0 ≤ b → b < (bounds calls).1 → InRom b)
     → ((b : ℕ) → is_offered routine cpu b ≡ true → InRom b)
     → IsOpen R routine cpu.s calls cpu []

@@ -9,7 +9,7 @@ use Rattle.dvg_game_rules.specs.Machine.{IsLoaded, IsTurned}
 use Rattle.dvg_game_rules.specs.Alike.{idle}
 
 -- registers and memory are bytes
-pub record AreBytes (cpu : Cpu) : Type 0 where
+pub record IsByteWide (cpu : Cpu) : Type 0 where
   pub a : cpu.a < 256
   pub x : cpu.x < 256
   pub y : cpu.y < 256
@@ -41,7 +41,7 @@ pub record Begins (rom : ℕ → ℕ) (start : ℕ) (cpu : Cpu) : Type 0 where
   pub loaded : IsLoaded rom cpu.mem
   pub entry : cpu.pc ≡ start
   pub stack : cpu.s ≡ 255
-  pub bytes : AreBytes cpu
+  pub bytes : IsByteWide cpu
 
 -- all that a program may do up to the next reset, or a JMP there: with how many instructions came
 -- since the last NMI, and the driver's accesses, the newest first. The flag answers with any byte.

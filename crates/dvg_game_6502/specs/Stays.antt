@@ -5,7 +5,7 @@ use Rattle.dvg_calls_6502.specs.Amid.{changed, guards, is_code, is_kept, is_work
 use Rattle.dvg_calls_6502.specs.Board.{is_hardware, is_own}
 use Rattle.dvg_calls_6502.specs.Routines.{Labs}
 use Rattle.dvg_calls_6502.specs.Calls.{Puts, Call, after, frame_of, has_returned, is_table, is_taken, IsSessionBy}
-use Rattle.dvg_calls_6502.specs.Programs.{Tells}
+use Rattle.dvg_calls_6502.specs.Programs.{CallBrings}
 
 -- what a step of a call that began with this S may write: the driver's bytes, what is set for a call and what it counts
 -- by, the hardware, and two bytes of the stack
@@ -21,12 +21,12 @@ pub record Stays (s : ℕ) (now new : Cpu) : Type 0 where
 
 -- so does each step of each call of a session, on whatever memory harmless others leave
 abbrev pub CallsStay : Type 0
-CallsStay = (R : List ℕ) (call : Call) (calls : List Call) (m : ℕ → ℕ) → IsSessionBy (Tells R) (call ∷ calls)
+CallsStay = (R : List ℕ) (call : Call) (calls : List Call) (m : ℕ → ℕ) → IsSessionBy (CallBrings R) (call ∷ calls)
     → 4 ≤ call.from.s
     → ((b : ℕ) → guards (is_kept (is_table call calls)) call.from.s (after call).s b ≡ true → m b ≡ (after call).mem b)
     → Stays call.from.s (changed m (after call)) (turn call.from.s (changed m (after call)))
 
 -- where a frame is begun, with nothing in it, a dvg_labs that has returned is taken
 abbrev pub LabsBegins : Type 0
-LabsBegins = (R : List ℕ) (call : Call) (calls : List Call) (rest : List ℕ) → IsSessionBy (Tells R) (call ∷ calls)
+LabsBegins = (R : List ℕ) (call : Call) (calls : List Call) (rest : List ℕ) → IsSessionBy (CallBrings R) (call ∷ calls)
     → call.routine ≡ Puts Labs → frame_of calls ≡ Some (0, rest) → has_returned call ≡ true → is_taken call ≡ true

@@ -10,7 +10,7 @@ use Rattle.dvg_calls_6502.specs.Board.{is_own, seen}
 use Rattle.dvg_calls_6502.specs.Calls
 use Rattle.dvg_calls_6502.specs.Calls.{Call, Routine, after, answer, finds_busy, has_returned, is_leaving, is_over}
 use Rattle.dvg_calls_6502.specs.Calls.{is_refused, is_table, IsSessionBy}
-use Rattle.dvg_calls_6502.specs.Programs.{Tells}
+use Rattle.dvg_calls_6502.specs.Programs.{CallBrings}
 use Rattle.dvg_calls_6502.specs.Routines.{Labs}
 use Rattle.dvg_calls_6502.proofs.Decided.{clears}
 use Rattle.dvg_cells_board.specs.Board.{Bus}
@@ -113,7 +113,7 @@ module _ (R image : List ℕ) (held : ℕ → ℕ) where
       (same_calls (nat_eq bus.reset 0) calls) (machine.waits bus false on is served idle)
 
   pub stand_begins : (routine : Routine) (from : Cpu) (others : ℕ → ℕ → ℕ) (calls : List Call) (clocks : List Bus) (log : Log)
-      → IsProgram R image held calls log clocks → IsSessionBy (Tells R) (begun routine from others ∷ calls)
+      → IsProgram R image held calls log clocks → IsSessionBy (CallBrings R) (begun routine from others ∷ calls)
       → IsCheckedTable R routine → SharesRam routine from.mem (clocked.after held clocks)
       → Stand R image held (begun routine from others) calls clocks
   stand_begins routine from others calls clocks log on session checked shares = level (λ more alike. (
@@ -139,7 +139,7 @@ module _ (R image : List ℕ) (held : ℕ → ℕ) where
         leaves n (waits_on bus is served idle n comes) count leaving returned kept
 
     -- one more step, which finds this memory
-    module _ (m : ℕ → ℕ) (session : IsSessionBy (Tells R) (call ∷ calls)) (goes : has_returned call ≡ false) where
+    module _ (m : ℕ → ℕ) (session : IsSessionBy (CallBrings R) (call ∷ calls)) (goes : has_returned call ≡ false) where
       abbrev new : Call
       new = further call m
 
@@ -210,7 +210,7 @@ module _ (R image : List ℕ) (held : ℕ → ℕ) where
               one (inr is) = two (either (is_refused call) _ is)
 
       -- one with an access, in a clock that makes it
-      module _ (later : IsSessionBy (Tells R) (new ∷ calls)) (access : Access) (bus : Bus)
+      module _ (later : IsSessionBy (CallBrings R) (new ∷ calls)) (access : Access) (bus : Bus)
           (more : accesses_of new ≡ access ∷ accesses_of call) (is : IsBus bus)
           (served : IsServed R (clocked.after held clocks) bus) (made : Makes (clocked.after held clocks) bus access) where
         commits : (n rest : ℕ) → rest + n ≡ call.steps → Comes R image held call calls n clocks
@@ -235,7 +235,7 @@ module _ (R image : List ℕ) (held : ℕ → ℕ) where
                 prior : (log : Log) × IsProgram R image held (so_far call n others ∷ calls) log clocks
                 prior = comes_on n rest count comes others first
 
-                session_then : IsSessionBy (Tells R) (so_far call (n + suc rest) others ∷ calls)
+                session_then : IsSessionBy (CallBrings R) (so_far call (n + suc rest) others ∷ calls)
                 session_then = (
                   later.0,
                   later.1,
@@ -257,7 +257,7 @@ module _ (R image : List ℕ) (held : ℕ → ℕ) where
         stand_accesses (leaves n comes count leaving returned kept) = absurd (let e = sym goes ∙ returned in cc)
 
     -- at its RTS
-    module _ (session : IsSessionBy (Tells R) (call ∷ calls)) (returned : has_returned call ≡ true) where
+    module _ (session : IsSessionBy (CallBrings R) (call ∷ calls)) (returned : has_returned call ≡ true) where
       by_itself : (log : Log) → IsProgram R image held (call ∷ calls) log clocks → Last R image held call calls clocks
       by_itself log on = record {
         end = record {
@@ -281,7 +281,7 @@ module _ (R image : List ℕ) (held : ℕ → ℕ) where
           by_itself (told image call one.0)
           (subst (λ k. IsProgram R image held (so_far call k call.others ∷ calls) (told image (so_far call k call.others) one.0) clocks)
           up (machine.steps rest one.1 over
-          (subst (λ k. IsSessionBy (Tells R) (so_far call k call.others ∷ calls)) (sym up) session)
+          (subst (λ k. IsSessionBy (CallBrings R) (so_far call k call.others ∷ calls)) (sym up) session)
           (ap (λ k. accesses_of (so_far call k call.others)) up ∙ before)))
       stand_ends (leaves n comes count leaving home kept) =
           let one = comes call.others (λ k less. refl) in

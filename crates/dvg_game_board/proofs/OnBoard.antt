@@ -12,7 +12,7 @@ use Rattle.dvg_cells_board.specs.Board.{Bus}
 use Rattle.dvg_cells_board.specs.Clocks as clocked
 use Rattle.dvg_calls_board.specs.Hindsight.{IsCheckedTable, IsProgram}
 use Rattle.dvg_calls_board.specs.Machine.{SharesRam}
-use Rattle.dvg_game_6502.specs.Play.{AreBytes, done}
+use Rattle.dvg_game_6502.specs.Play.{IsByteWide, done}
 use Rattle.dvg_game_6502.specs.Open.{IsIn}
 use Rattle.dvg_game_6502.proofs.Bearers.{Bearer, Ended, IsChecked}
 use Rattle.dvg_game_6502.proofs.OpenCall.{has_come}
@@ -42,7 +42,7 @@ module _ (laws : Laws) (R image : List ℕ) (held : ℕ → ℕ) where
   module _ {routine : Routine} {s : ℕ} {calls : List Call} {cpu : Cpu} {mine : List Access} {older : List Bus}
       (on : OnBoard R image held routine s calls cpu mine older) (code : is_code cpu.pc ≡ true) where
     -- an instruction makes one access at most
-    pub steps : (newer : List Bus) (flags : ℕ → ℕ) → AreBytes cpu → at_return s cpu ≡ false
+    pub steps : (newer : List Bus) (flags : ℕ → ℕ) → IsByteWide cpu → at_return s cpu ≡ false
         → AreMade R held (seen (done flags cpu).log) older newer
         → OnBoard R image held routine s calls (done flags cpu) ((done flags cpu).log ++ mine) newer
     steps newer flags bytes not_there made = by older newer (seen (done flags cpu).log) on refl

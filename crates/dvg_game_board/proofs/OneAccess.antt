@@ -10,7 +10,7 @@ use Rattle.dvg_calls_6502.specs.Calls.{Call, Routine, is_table}
 use Rattle.dvg_calls_6502.specs.Single.{is_single}
 use Rattle.dvg_calls_6502.proofs.FewAccesses.{AreFew as AreShort, few as few_by, low_unseen, unseen}
 use Rattle.dvg_game_rules.proofs.Facts.{both_true}
-use Rattle.dvg_game_6502.specs.Play.{AreBytes, done, fresh}
+use Rattle.dvg_game_6502.specs.Play.{IsByteWide, done, fresh}
 use Rattle.dvg_game_6502.specs.Open.{IsIn}
 use Rattle.dvg_game_6502.proofs.CallsStay.{good_call}
 use Rattle.dvg_game_6502.proofs.Claims.{Note}
@@ -66,7 +66,7 @@ none_or_one (access ∷ other ∷ list) (inl less) = absurd (omega (arith, less)
 none_or_one (access ∷ other ∷ list) (inr low) =
     inl (unseen (access ∷ other ∷ list) (low_unseen (access ∷ other ∷ list) low))
 
-module _ (cpu : Cpu) (flags : ℕ → ℕ) (bytes : AreBytes cpu) where
+module _ (cpu : Cpu) (flags : ℕ → ℕ) (bytes : IsByteWide cpu) where
   abbrev now : Cpu
   now = fresh flags cpu
 

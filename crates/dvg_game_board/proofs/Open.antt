@@ -6,7 +6,7 @@ use Rattle.dvg_calls_6502.specs.Amid.{changed, guards, is_code, is_kept}
 use Rattle.dvg_calls_6502.specs.Board.{seen}
 use Rattle.dvg_calls_6502.specs.Calls as calls_of
 use Rattle.dvg_calls_6502.specs.Calls.{Routine, Call, bounds, entry, frame_of, has_returned, is_offered, UnlessReset}
-use Rattle.dvg_calls_6502.specs.Programs.{Tells}
+use Rattle.dvg_calls_6502.specs.Programs.{CallBrings}
 use Rattle.dvg_calls_6502.specs.Routines.{Enters}
 use Rattle.dvg_calls_6502.proofs.LogsGrow.{seen_append}
 use Rattle.dvg_cells_board.specs.Board.{Board, Bus}
@@ -104,7 +104,7 @@ pub board_begins : (R image : List ℕ) (held : ℕ → ℕ) (routine : Routine)
     (clocks : List Bus) → IsProgram R image held calls log clocks
     → UnlessReset routine (Rested R calls cpu.mem)
     → ((flags : ℕ → ℕ) → Enters (fresh flags cpu) (entry routine))
-    → ((flags : ℕ → ℕ) → Tells R routine (fresh flags cpu) (frame_of calls))
+    → ((flags : ℕ → ℕ) → CallBrings R routine (fresh flags cpu) (frame_of calls))
     → IsCheckedTable R routine → SharesRam calls_of.Reset cpu.mem (clocked.after held clocks)
     → ((b : ℕ) → (bounds calls).0 ≤ b → b < (bounds calls).1 → InRom b)
     → ((b : ℕ) → is_offered routine cpu b ≡ true → InRom b)

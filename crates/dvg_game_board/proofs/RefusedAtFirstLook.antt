@@ -10,7 +10,7 @@ use Rattle.dvg_calls_6502.specs.Board.{is_own, seen}
 use Rattle.dvg_calls_6502.specs.Calls
 use Rattle.dvg_calls_6502.specs.Calls.{Call, Routine, after, entry, finds_busy, is_refused, is_table, IsSessionBy}
 use Rattle.dvg_calls_6502.specs.Code.{code}
-use Rattle.dvg_calls_6502.specs.Programs.{Tells}
+use Rattle.dvg_calls_6502.specs.Programs.{CallBrings}
 use Rattle.dvg_calls_6502.specs.Routines.{Put, Pair, Labs, Vector}
 use Rattle.dvg_game_rules.proofs.Facts.{both_true}
 
@@ -100,7 +100,7 @@ looks Calls.Close mem is = record {
 code_ends : 0x6800 + length code ≤ 0x6A87
 code_ends = leb-true (0x6800 + length code) 0x6A87 refl
 
-pub refused_quiet : (R : List ℕ) (call : Call) (calls : List Call) → IsSessionBy (Tells R) (call ∷ calls)
+pub refused_quiet : (R : List ℕ) (call : Call) (calls : List Call) → IsSessionBy (CallBrings R) (call ∷ calls)
     → is_refused call ≡ true → seen (after call).log ≡ []
 refused_quiet R call calls session is =
     ap (λ n. seen (amid call.from.s call.others n call.from).log) once

@@ -26,9 +26,9 @@ use Rattle.dvg_game_6502.proofs.Plays.{Brought, by_bytes, by_content, stage_does
 use Rattle.dvg_game_6502.proofs.Returns.{covers}
 use Rattle.dvg_game_6502.proofs.Stages.{InDriver, IsAccepted, Stage}
 use Rattle.dvg_game_board.specs.Cabinet.{IsCabinet, powers, waits, reads, resets, tests, begins, does, nmi, touched}
-use Rattle.dvg_game_board.specs.Cabinet.{turns, written, AreAlike, AreMade, no_more, one_more}
+use Rattle.dvg_game_board.specs.Cabinet.{turns, written, ClocksDrawAlike, AreMade, no_more, one_more}
 use Rattle.dvg_game_board.specs.Cabinet as cabinet
-use Rattle.dvg_game_board.specs.Keeps.{GamesKeep, GamesLeaveBoard, Keeps, VectorsKeep}
+use Rattle.dvg_game_board.specs.Keeps.{GameKeepsHeadline, GamesKeep, GamesLeaveBoard, VectorsKeep}
 use Rattle.dvg_game_board.proofs.BoardsAfterLooks.{Same, itself, joins, read_elsewhere, same_clock, same_idle, same_makes, same_served}
 use Rattle.dvg_game_board.proofs.UnwrittenRam.{ram_stays}
 use Rattle.dvg_game_board.proofs.OnBoard.{on_board}
@@ -40,12 +40,12 @@ use Rattle.dvg_game_board.proofs.CallProgress.{Comes, Stand, level, behind, leav
 -- clocks that make these accesses in one run make them in another one that is alike
 record Shown (R : List ℕ) (held : ℕ → ℕ) (log : List Access) (shown newer : List Bus) : Type 0 where
   later : List Bus
-  alike : AreAlike held newer later
+  alike : ClocksDrawAlike held newer later
   same : Same (clocked.after held newer) (clocked.after held later)
   taken : AreMade R held log shown later
 
 shows : (R : List ℕ) (held : ℕ → ℕ) {log : List Access} {older newer : List Bus} (shown : List Bus)
-    → AreAlike held older shown → Same (clocked.after held older) (clocked.after held shown)
+    → ClocksDrawAlike held older shown → Same (clocked.after held older) (clocked.after held shown)
     → AreMade R held log older newer → Shown R held log shown newer
 shows R held shown alike same no_more = record { later = shown; alike = alike; same = same; taken = no_more }
 shows R held shown alike same (one_more {log} {older} {newer} access bus taken is served makes) =
@@ -163,7 +163,7 @@ module _ (laws : Laws) (R image : List ℕ) (held rom : ℕ → ℕ) (start : �
   -- a run stands somewhere, with the clocks that its log is of
   pub record Standing (at : Option (Cpu × ℕ)) (made : List Bus) : Type 0 where
     pub shown : List Bus
-    pub alike : AreAlike held made shown
+    pub alike : ClocksDrawAlike held made shown
     pub same : Same (clocked.after held made) (clocked.after held shown)
     pub stage : Stands at shown
 
@@ -256,7 +256,7 @@ module _ (laws : Laws) (R image : List ℕ) (held rom : ℕ → ℕ) (start : �
   }
 
   keeps : (at : Option (Cpu × ℕ)) (clocks : List Bus) → IsCabinet R image held rom start at clocks
-      → Keeps R image held clocks
+      → GameKeepsHeadline R image held clocks
   keeps at clocks on =
       let one = standing on in
       let before = machine_of at one.stage in

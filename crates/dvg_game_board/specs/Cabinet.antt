@@ -79,10 +79,10 @@ DrawAlike one two = (one.core ≡ two.core) × (one.ram ≡ two.ram)
 
 -- clocks of a cabinet, and those that a log is of: the same, but that a read by the game itself may be of another place.
 -- After each clock the two boards draw the same
-pub data AreAlike (held : ℕ → ℕ) : List Bus → List Bus → Type 0 where
-  none : AreAlike held [] []
-  same : {made shown : List Bus} (bus : Bus) → AreAlike held made shown
-      → DrawAlike (after held (bus ∷ made)) (after held (bus ∷ shown)) → AreAlike held (bus ∷ made) (bus ∷ shown)
-  elsewhere : {made shown : List Bus} (bus : Bus) (a : ℕ) → bus.write ≡ 0 → AreAlike held made shown
+pub data ClocksDrawAlike (held : ℕ → ℕ) : List Bus → List Bus → Type 0 where
+  none : ClocksDrawAlike held [] []
+  same : {made shown : List Bus} (bus : Bus) → ClocksDrawAlike held made shown
+      → DrawAlike (after held (bus ∷ made)) (after held (bus ∷ shown)) → ClocksDrawAlike held (bus ∷ made) (bus ∷ shown)
+  elsewhere : {made shown : List Bus} (bus : Bus) (a : ℕ) → bus.write ≡ 0 → ClocksDrawAlike held made shown
       → DrawAlike (after held (bus ∷ made)) (after held (record bus { a = a } ∷ shown))
-      → AreAlike held (bus ∷ made) (record bus { a = a } ∷ shown)
+      → ClocksDrawAlike held (bus ∷ made) (record bus { a = a } ∷ shown)

@@ -7,7 +7,7 @@ use Rattle.dvg_calls_6502.specs.Processor.{Cpu, Instr, JumpAt, Load, ToStack, X,
 use Rattle.dvg_calls_6502.specs.Amid.{changed}
 use Rattle.dvg_cells_board.specs.Board.{Bus}
 use Rattle.dvg_cells_cpu.specs.Cpu.{Cpu as Cells, sync}
-use Rattle.dvg_cells_cpu.specs.Refines.{Cycle, made, after_writes, Rests, Goes, cycles, ends, fetched}
+use Rattle.dvg_cells_cpu.specs.Refines.{Cycle, made, after_writes, Rests, CellsDo, cycles, ends, fetched}
 use Rattle.dvg_game_rules.specs.Kinds.{kind, kind_of}
 use Rattle.dvg_game_rules.specs.Machine.{IsLoaded}
 use Rattle.dvg_game_rules.specs.Checker.{Level, Main, Nmi, Note, noted, same_level, starts as starts_at}
@@ -25,7 +25,7 @@ use Rattle.dvg_calls_cells.specs.Steps.{instr_of}
 use Rattle.dvg_calls_cells.specs.Played.{at_rest, older_after, cells_after}
 use Rattle.dvg_calls_cells.proofs.BoardLeftAlone.{made_more, write_append, write_both}
 use Rattle.dvg_calls_cells.proofs.SeenAccesses.{fetched_quiet}
-use Rattle.dvg_game_6502.specs.Play.{AreBytes, Begins}
+use Rattle.dvg_game_6502.specs.Play.{Begins, IsByteWide}
 use Rattle.dvg_game_6502.proofs.Bytes.{done_bytes}
 use Rattle.dvg_game_6502.proofs.GameSteps.{bytes_pushed}
 use Rattle.dvg_game_6502.proofs.Stages.{IsAccepted}
@@ -104,7 +104,7 @@ module _ (R image : List ℕ) (held rom : ℕ → ℕ) (start : ℕ) (cpu : Cpu)
   -- an instruction in the ROM, where no NMI is due
   record Ready : Type 0 where
     in_rom : InRom cpu
-    bytes : AreBytes cpu
+    bytes : IsByteWide cpu
     direct : is_direct (instr_of cpu) ≡ true
     free : cells.due ≡ 0
 
@@ -121,7 +121,7 @@ module _ (R image : List ℕ) (held rom : ℕ → ℕ) (start : ℕ) (cpu : Cpu)
       last = does (instr_of k) k
 
       abbrev Went : ℕ → Type 0
-      Went n = Goes (instr_of k) k cells
+      Went n = CellsDo (instr_of k) k cells
           (CyclesFind.whole R image held rom start cpu older cells work calm rests is.free is.in_rom is.bytes is.direct list claim n)
 
       went : (n : ℕ) → counted list + n ≡ cycles (instr_of cpu) → Went n
@@ -155,7 +155,7 @@ module _ (R image : List ℕ) (held rom : ℕ → ℕ) (start : ℕ) (cpu : Cpu)
       abbrev end_calm : ℕ
       end_calm = calms cells (cycled list) calm
 
-      bytes_then : AreBytes last
+      bytes_then : IsByteWide last
       bytes_then = let high = is.in_rom.high in let old = is.bytes in done_bytes claim.flags (changed claim.mem cpu)
           (record { a = old.a; x = old.x; y = old.y; s = old.s; mem = claim.bytes }) claim.small (omega (arith, high))
 
@@ -243,7 +243,7 @@ module _ (R image : List ℕ) (held rom : ℕ → ℕ) (start : ℕ) (cpu : Cpu)
   view left (inl fine) = view_at left fine
   view left (inr at) = txs at
 
-  module _ (old : (b : ℕ) → 0x4800 ≤ b → b < 0x8000 → cpu.mem b ≡ rom b) (bytes : AreBytes cpu) (kinds : Kinds) where
+  module _ (old : (b : ℕ) → 0x4800 ≤ b → b < 0x8000 → cpu.mem b ≡ rom b) (bytes : IsByteWide cpu) (kinds : Kinds) where
     in_rom : InRom cpu
     in_rom = by kinds
       where
@@ -406,7 +406,7 @@ module _ (R image : List ℕ) (held rom : ℕ → ℕ) (start : ℕ) (cpu : Cpu)
           let small = vectors_in R image held rom start cpu older cells work calm bytes.mem doing.rom_in in
           let g = nmi_done R image held rom start cpu older cells work calm there bytes rests due close list count doing in
           let time = nmi_time R image held rom start cpu older cells work calm there bytes rests due close list count doing in
-          let old : AreBytes (changed mem cpu) = record { a = bytes.a; x = bytes.x; y = bytes.y; s = bytes.s; mem = small } in
+          let old : IsByteWide (changed mem cpu) = record { a = bytes.a; x = bytes.x; y = bytes.y; s = bytes.s; mem = small } in
           let early = early_begins rom start game.notes (both_true (accepts_game rom start game.notes) _ game.yes).0 cpu mem
           (λ b low top. turned b (rom_inside b low top) ∙ doing.shares.loaded b low top) bytes.s in
           let bound = time.1 in
@@ -425,7 +425,7 @@ module _ (R image : List ℕ) (held rom : ℕ → ℕ) (start : ℕ) (cpu : Cpu)
       (so : Boots R image held rom start left back) (early : Early rom start back since cpu)
       (boot : IsBoot rom start (Some back.pc) cpu) (free : cells.due ≡ 0)
       (close : calm ≤ 6 * since + 13) where
-    nmi_ready : AreBytes cpu → Ready
+    nmi_ready : IsByteWide cpu → Ready
     nmi_ready bytes = let place = early_place early in record {
       in_rom = record { low = place.0; high = place.1; bytes = bytes.mem };
       bytes = bytes;
@@ -448,7 +448,7 @@ module _ (R image : List ℕ) (held rom : ℕ → ℕ) (start : ℕ) (cpu : Cpu)
         → sync (cells_after held older cells list) ≡ 0
     handles_unread list some less doing = unread (nmi_ready doing.shares.bytes) list some less doing
 
-    nmi_quiet : (bytes : AreBytes cpu) (list : List Turn) (claim : Claim list) → AreQuiet (last (nmi_ready bytes) list claim).log
+    nmi_quiet : (bytes : IsByteWide cpu) (list : List Turn) (claim : Claim list) → AreQuiet (last (nmi_ready bytes) list claim).log
     nmi_quiet bytes list claim =
         quiet_log (nmi_ready bytes) list claim (early_beside (early_turns early claim.mem claim.flags claim.turned))
 

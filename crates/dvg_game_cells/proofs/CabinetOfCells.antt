@@ -26,8 +26,8 @@ use Rattle.dvg_game_6502.proofs.Stages.{IsAccepted}
 use Rattle.dvg_game_board.proofs.OnBoard.{on_board}
 use Rattle.dvg_calls_board.proofs.Waiting.{below}
 use Rattle.dvg_calls_board.specs.Machine.{OfEachMachine}
-use Rattle.dvg_game_board.specs.Cabinet.{IsCabinet, powers, resets, waits, AreAlike, DrawAlike, none, same, elsewhere}
-use Rattle.dvg_game_board.specs.Keeps.{GamesKeep, Keeps, VectorsKeep}
+use Rattle.dvg_game_board.specs.Cabinet.{IsCabinet, powers, resets, waits, ClocksDrawAlike, DrawAlike, none, same, elsewhere}
+use Rattle.dvg_game_board.specs.Keeps.{GameKeepsHeadline, GamesKeep, VectorsKeep}
 use Rattle.dvg_game_board.proofs.SharedRam.{Laws}
 use Rattle.dvg_game_cells.specs.Whole.{IsDriven, IsWhole, Finds, calm_after, work_after}
 use Rattle.dvg_game_cells.specs.Whole as whole
@@ -45,7 +45,7 @@ use Rattle.dvg_game_cells.proofs.TaskEnds.{Done, EndsInCycle, Half, works_in}
 use Rattle.dvg_game_cells.proofs.Snoc.{counts, counts_idle, more_asked, more_calms, more_cells, more_given, more_older, more_works, then_at}
 
 -- clocks that are alike leave boards that draw the same
-alike_draw : {held : ℕ → ℕ} {made shown : List Bus} → AreAlike held made shown → DrawAlike (after held made) (after held shown)
+alike_draw : {held : ℕ → ℕ} {made shown : List Bus} → ClocksDrawAlike held made shown → DrawAlike (after held made) (after held shown)
 alike_draw none = (refl, refl)
 alike_draw (same bus rest draw) = draw
 alike_draw (elsewhere bus a reading rest draw) = draw
@@ -475,7 +475,7 @@ module _ (laws : Laws) (R image : List ℕ) (held rom : ℕ → ℕ) (start : �
 
   -- and what is said of a cabinet is said of the cells
   of_cabinet : OfEachMachine (λ R image held calls log clocks. HoldsRam image held log clocks)
-      → ((spot : Option (Cpu × ℕ)) (clocks : List Bus) → On spot clocks → Keeps R image held clocks)
+      → ((spot : Option (Cpu × ℕ)) (clocks : List Bus) → On spot clocks → GameKeepsHeadline R image held clocks)
       → (machine : Machine) (work : ℕ → ℕ) (calm : ℕ) (clocks : List Bus)
       → IsWhole R image held rom machine work calm clocks → CellsKeep R image held rom start machine clocks
   of_cabinet memory keeps machine work calm clocks on =

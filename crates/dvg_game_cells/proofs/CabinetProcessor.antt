@@ -13,7 +13,7 @@ use Rattle.dvg_game_rules.specs.Alike.{of_cpu}
 use Rattle.dvg_game_rules.proofs.Facts.{both_true, inside}
 use Rattle.dvg_game_rules.proofs.Memory.{between}
 use Rattle.dvg_calls_cells.specs.Steps.{instr_of}
-use Rattle.dvg_game_6502.specs.Play.{AreBytes}
+use Rattle.dvg_game_6502.specs.Play.{IsByteWide}
 use Rattle.dvg_game_board.specs.Cabinet.{IsCabinet}
 use Rattle.dvg_game_6502.proofs.Plays.{Brought}
 use Rattle.dvg_game_6502.proofs.Stages.{IsAccepted, Stage, safe_at}
@@ -25,7 +25,7 @@ use Rattle.dvg_game_cells.proofs.InstructionReads.{InRom, is_direct}
 
 pub record Known (rom : ℕ → ℕ) (cpu : Cpu) : Type 0 where
   pub in_rom : InRom cpu
-  pub bytes : AreBytes cpu
+  pub bytes : IsByteWide cpu
   pub loaded : IsLoaded rom cpu.mem
   pub direct : is_direct (instr_of cpu) ≡ true
   pub single : is_code cpu.pc ≡ true → is_single (instr_of cpu) ≡ true
@@ -39,7 +39,7 @@ single_direct JumpAt is = is
 single_direct i is = refl
 
 module _ (laws : Laws) (R image : List ℕ) (held rom : ℕ → ℕ) (start : ℕ) (game : IsAccepted rom start) where
-  of_game : (cpu : Cpu) (st : State) → IsSafe rom (of_cpu cpu st) → AreBytes cpu → Known rom cpu
+  of_game : (cpu : Cpu) (st : State) → IsSafe rom (of_cpu cpu st) → IsByteWide cpu → Known rom cpu
   of_game cpu st safe bytes =
       let place = inside cpu.pc safe.inside in
       let low = place.0 in

@@ -15,7 +15,7 @@ use Rattle.dvg_calls_cells.specs.Cycles.{Turn, acts, idles, next, cycles_of, cyc
 use Rattle.dvg_calls_cells.specs.Steps.{instr_of}
 use Rattle.dvg_calls_cells.specs.Played.{AreGiven, at_rest, older_after, cells_after}
 use Rattle.dvg_calls_cells.proofs.Fits.{AllFit}
-use Rattle.dvg_game_6502.specs.Play.{AreBytes}
+use Rattle.dvg_game_6502.specs.Play.{IsByteWide}
 use Rattle.dvg_game_board.specs.Cabinet.{IsCabinet}
 use Rattle.dvg_game_cells.specs.Keeps.{IsBoot}
 use Rattle.dvg_game_cells.specs.Whole.{Finds}
@@ -64,7 +64,7 @@ module _ (R image : List ℕ) (held rom : ℕ → ℕ) (start : ℕ) where
     pub low : (b : ℕ) → b < 0x200 → cpu.mem b ≡ work b
     pub ram : (a : ℕ) → a < 2048 → cpu.mem (0x4000 + a) ≡ (after held clocks).ram a
     pub loaded : IsLoaded rom cpu.mem
-    pub bytes : AreBytes cpu
+    pub bytes : IsByteWide cpu
 
   -- cycles from these cells on
   pub record Doing (cpu : Cpu) (older : List Bus) (cells : Cells) (work : ℕ → ℕ) (calm : ℕ) (list : List Turn) : Type 0

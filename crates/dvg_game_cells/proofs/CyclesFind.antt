@@ -11,7 +11,7 @@ use Rattle.dvg_cells_core.specs.Cells.{mux}
 use Rattle.dvg_cells_board.specs.Board.{Bus, q}
 use Rattle.dvg_cells_board.specs.Clocks.{after}
 use Rattle.dvg_cells_cpu.specs.Cpu.{Cpu as Cells, at, write, dout, clock, sync}
-use Rattle.dvg_cells_cpu.specs.Refines.{Cycle, pins_of, access, made, AreAnswered, Where, ends, Rests, Goes, IsSound, cycles}
+use Rattle.dvg_cells_cpu.specs.Refines.{Cycle, pins_of, access, made, AreAnswered, Where, ends, Rests, CellsDo, IsSound, cycles}
 use Rattle.dvg_cells_cpu.specs.Refines.{AreAmid, ShowsOpcode, fetched}
 use Rattle.dvg_cells_cpu.proofs.EachOpcode.{refines}
 use Rattle.dvg_cells_cpu.proofs.Bounds.{mux_in}
@@ -27,7 +27,7 @@ use Rattle.dvg_calls_cells.proofs.RamReads.{answered_of}
 use Rattle.dvg_calls_cells.proofs.BoardLeftAlone.{made_more}
 use Rattle.dvg_calls_cells.proofs.CallOnCells.{on_board}
 use Rattle.dvg_calls_board.proofs.Ram.{in_ram as ram_place}
-use Rattle.dvg_game_6502.specs.Play.{AreBytes, fresh}
+use Rattle.dvg_game_6502.specs.Play.{IsByteWide, fresh}
 use Rattle.dvg_game_cells.proofs.InstructionReads.{AreFine, AreTame, InRom, IsTame, fine, fine_end, is_direct}
 use Rattle.dvg_game_cells.proofs.ReadsBeforeWrites.{off_board, tame_answered, tame_byte, tame_writes, where_so}
 use Rattle.dvg_game_cells.proofs.CellsTask.{Asked, AreAsked, Doing, calm_in, calms, counted, works, wrote}
@@ -281,7 +281,7 @@ module _ (R image : List ℕ) (held rom : ℕ → ℕ) (start : ℕ) where
       pub small : flags 0 < 256
       pub answered : AreAnswered (fresh flags (changed mem cpu)) cells (cycled list)
 
-    module _ (rests : Rests cells cpu) (free : cells.due ≡ 0) (in_rom : InRom cpu) (bytes : AreBytes cpu)
+    module _ (rests : Rests cells cpu) (free : cells.due ≡ 0) (in_rom : InRom cpu) (bytes : IsByteWide cpu)
         (direct : is_direct (instr_of cpu) ≡ true) where
       module _ (list : List Turn) (claim : Claim list) where
         abbrev pub as_turned : Cpu
@@ -330,7 +330,7 @@ module _ (R image : List ℕ) (held rom : ℕ → ℕ) (start : ℕ) where
         whole n = cycled list ++ answers n (cells_after held older cells list) as_turned
 
         -- these cycles and others are the instruction
-        pub went : (n : ℕ) → counted list + n ≡ cycles (instr_of cpu) → Goes (instr_of as_turned) as_turned cells (whole n)
+        pub went : (n : ℕ) → counted list + n ≡ cycles (instr_of cpu) → CellsDo (instr_of as_turned) as_turned cells (whole n)
         went n count =
             let then_cells = cells_after held older cells list in
             let e1 = length_both (cycled list) (answers n then_cells as_turned) in
@@ -341,12 +341,12 @@ module _ (R image : List ℕ) (held rom : ℕ → ℕ) (start : ℕ) where
             (answered_both as_turned (cycled list) (answers n then_cells as_turned) cells claim.answered
             (answers_so n then_cells as_turned))
 
-        pub log_is : (n : ℕ) (g : Goes (instr_of as_turned) as_turned cells (whole n))
+        pub log_is : (n : ℕ) (g : CellsDo (instr_of as_turned) as_turned cells (whole n))
             → (does (instr_of as_turned) as_turned).log ≡ g.news
         log_is n g = g.log ∙ append-nil g.news
 
         -- and all that they access is fine
-        pub fine_so : (n : ℕ) → Goes (instr_of as_turned) as_turned cells (whole n) → AreFine (made cells (whole n) [])
+        pub fine_so : (n : ℕ) → CellsDo (instr_of as_turned) as_turned cells (whole n) → AreFine (made cells (whole n) [])
         fine_so n g =
             let mine : InRom as_turned = record { low = in_rom.low; high = in_rom.high; bytes = claim.bytes } in
             subst AreFine (sym g.bus)
@@ -354,7 +354,7 @@ module _ (R image : List ℕ) (held rom : ℕ → ℕ) (start : ℕ) where
             (fine as_turned mine (instr_of as_turned) (ap is_direct same_instr ∙ direct) refl))
 
         -- amid them no opcode is read
-        pub amid_so : (n : ℕ) → Goes (instr_of as_turned) as_turned cells (whole (suc n)) → 0 < counted list
+        pub amid_so : (n : ℕ) → CellsDo (instr_of as_turned) as_turned cells (whole (suc n)) → 0 < counted list
             → sync (cells_after held older cells list) ≡ 0
         amid_so n g some =
             let then_cells = cells_after held older cells list in
@@ -419,7 +419,7 @@ module _ (R image : List ℕ) (held rom : ℕ → ℕ) (start : ℕ) where
           }
 
       -- none yet, and all
-      claim_none : AreBytes cpu → Claim []
+      claim_none : IsByteWide cpu → Claim []
       claim_none small = record {
         mem = cpu.mem;
         flags = λ n. 0;

@@ -7,7 +7,7 @@ use Rattle.dvg_calls_6502.specs.Amid.{changed, is_code}
 use Rattle.dvg_calls_6502.specs.Board.{is_ram, seen, strobe_place}
 use Rattle.dvg_cells_board.specs.Board.{Bus}
 use Rattle.dvg_cells_cpu.specs.Cpu.{Cpu as Cells, sync}
-use Rattle.dvg_cells_cpu.specs.Refines.{Cycle, access, made, after_writes, Rests, Goes, cycles, ends, fetched}
+use Rattle.dvg_cells_cpu.specs.Refines.{Cycle, access, made, after_writes, Rests, CellsDo, cycles, ends, fetched}
 use Rattle.dvg_game_rules.specs.Kinds.{kind}
 use Rattle.dvg_game_rules.specs.Machine.{IsLoaded, reset_vector, restarting, word_at}
 use Rattle.dvg_game_rules.specs.Checker.{accepts_game, boots, boot_most, stand_at}
@@ -27,7 +27,7 @@ use Rattle.dvg_calls_cells.proofs.CallOnCells.{head_is}
 use Rattle.dvg_game_6502.proofs.Plays.{Brought}
 use Rattle.dvg_game_6502.proofs.Stages.{IsAccepted}
 use Rattle.dvg_game_board.proofs.OnBoard.{on_board}
-use Rattle.dvg_game_6502.specs.Play.{AreBytes, done, restarts}
+use Rattle.dvg_game_6502.specs.Play.{IsByteWide, done, restarts}
 use Rattle.dvg_game_board.specs.Cabinet.{IsCabinet, AreMade, no_more, does as makes_step, touched, turns, written}
 use Rattle.dvg_game_board.proofs.Runs.{leaves_board, standing}
 use Rattle.dvg_game_board.proofs.SharedRam.{Laws}
@@ -107,7 +107,7 @@ module _ (laws : Laws) (R image : List ℕ) (held rom : ℕ → ℕ) (start : �
       on_turned = turns claim.mem on claim.bytes claim.turned
 
       abbrev Went : ℕ → Type 0
-      Went n = Goes (instr_of as_turned) as_turned cells (whole n)
+      Went n = CellsDo (instr_of as_turned) as_turned cells (whole n)
 
       went : (n : ℕ) → counted list + n ≡ cycles (instr_of cpu) → Went n
       went n count = CyclesFind.went R image held rom start cpu older cells work calm rests free it.in_rom it.bytes it.direct list claim n count
@@ -289,7 +289,7 @@ module _ (laws : Laws) (R image : List ℕ) (held rom : ℕ → ℕ) (start : �
       all_served : AreServed R (at_rest held older cells) list × AllFit R held end_older end_cells
       all_served = served_of R held list older cells doing.fits doing.given
 
-      doing_then : IsLoaded rom last.mem → AreBytes last
+      doing_then : IsLoaded rom last.mem → IsByteWide last
           → Doing R image held rom start last end_older end_cells then_work then_calm []
       doing_then loaded bytes =
           doing_next R image held rom start cpu older cells work calm list doing last claim.mem claim.turned mem_is loaded bytes
@@ -375,7 +375,7 @@ module _ (laws : Laws) (R image : List ℕ) (held rom : ℕ → ℕ) (start : �
             ∙ ap (λ b. claim.mem (cpu.pc + 1) + 256 * claim.mem b) (sym high) ∙ to ∙ vector in
             let fine = (both_true (stand_at code rom 0x6800) _ (both_true (accepts_game rom start game.notes) _ game.yes).1).1 in
             let loaded : IsLoaded rom last.mem = subst (λ (c : Cpu). IsLoaded rom c.mem) (sym same) loaded_so in
-            let bytes : AreBytes last = subst AreBytes (sym same)
+            let bytes : IsByteWide last = subst IsByteWide (sym same)
             (record { a = it.bytes.a; x = it.bytes.x; y = it.bytes.y; s = it.bytes.s; mem = claim.bytes }) in
             settle_boot R image held rom start last (Some (turned list claim, since)) boot_most end_older end_cells then_work then_calm
             (on_quiet q.0) rests_then (inl (subst (λ p. boots boot_most rom p start ≡ true) (sym pc_is) fine))

@@ -27,7 +27,7 @@ use Rattle.dvg_game_6502.proofs.Plays.{Brought}
 use Rattle.dvg_game_6502.proofs.Stages.{IsAccepted}
 use Rattle.dvg_game_board.proofs.OnBoard as bearing
 use Rattle.dvg_game_6502.specs.Play
-use Rattle.dvg_game_6502.specs.Play.{AreBytes, fresh}
+use Rattle.dvg_game_6502.specs.Play.{IsByteWide, fresh}
 use Rattle.dvg_game_board.specs.Cabinet.{IsCabinet, nmi, turns}
 use Rattle.dvg_game_board.proofs.SharedRam.{Laws}
 use Rattle.dvg_game_cells.specs.Keeps.{from_vector}
@@ -195,7 +195,7 @@ module _ (R image : List ℕ) (held rom : ℕ → ℕ) (start : ℕ) where
 
     -- what the next task begins with
     pub doing_next : (list : List Turn) → Does list → (new : Cpu) (mem : ℕ → ℕ) → IsTurned cpu.mem mem
-        → new.mem ≡ after_writes (made cells (cycled list) []) mem → IsLoaded rom new.mem → AreBytes new
+        → new.mem ≡ after_writes (made cells (cycled list) []) mem → IsLoaded rom new.mem → IsByteWide new
         → Doing R image held rom start new (older_after held older cells list) (cells_after held older cells list)
         (works cells (cycled list) work) (calms cells (cycled list) calm) []
     doing_next list doing new mem turned is loaded bytes = record {
@@ -293,7 +293,7 @@ module _ (R image : List ℕ) (held rom : ℕ → ℕ) (start : ℕ) where
           let loaded : IsLoaded rom (restarted k).mem =
           λ b low high. vectors_turn b (rom_inside b low high) ∙ doing.shares.loaded b low high in
           let old = doing.shares.bytes in
-          let bytes : AreBytes (restarted k) =
+          let bytes : IsByteWide (restarted k) =
           record { a = old.a; x = old.x; y = old.y; s = lit< tt; mem = vectors_in old.mem doing.rom_in } in
           let fine = (both_true (stand_at code rom 0x6800) _ (both_true (accepts_game rom start game.notes) _ game.yes).1).1 in
           settle_boot R image held rom start (restarted k) spot boot_most (older_after held older cells list)
@@ -310,7 +310,7 @@ module _ (R image : List ℕ) (held rom : ℕ → ℕ) (start : ℕ) where
           close due (inr rose) = let long = rose.1 in omega (arith, long, count)
 
     -- an NMI
-    module _ (in_rom : InRom cpu) (bytes : AreBytes cpu) (rests : Rests cells cpu) (due : cells.due ≡ 1) (close : calm ≤ 6) where
+    module _ (in_rom : InRom cpu) (bytes : IsByteWide cpu) (rests : Rests cells cpu) (due : cells.due ≡ 1) (close : calm ≤ 6) where
       nmi_so : (list : List Turn) → counted list ≤ 5
           → AreQuiet (made cells (cycled list) []) × AreHigh (made cells (cycled list) [])
       nmi_so list less =

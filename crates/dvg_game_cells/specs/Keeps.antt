@@ -12,16 +12,16 @@ use Rattle.dvg_game_rules.specs.Checker.{Notes, accepts}
 use Rattle.dvg_game_rules.specs.Machine.{IsLoaded, IsTurned, reset_vector, word_at}
 use Rattle.dvg_calls_cells.specs.Machine.{Machine, sync}
 use Rattle.dvg_game_6502.specs.Games.{Content, never_calls}
-use Rattle.dvg_game_6502.specs.Play.{AreBytes, done, interrupted}
+use Rattle.dvg_game_6502.specs.Play.{IsByteWide, done, interrupted}
 use Rattle.dvg_game_board.specs.Cabinet.{DrawAlike, IsCabinet}
-use Rattle.dvg_game_board.specs.Keeps.{Keeps}
+use Rattle.dvg_game_board.specs.Keeps.{GameKeepsHeadline}
 use Rattle.dvg_game_cells.specs.Whole.{IsWhole}
 
 -- a 6502 by its definition with this ROM, between a reset and the program's start: where the reset's vector leads, with any
 -- registers and any memory but in the ROM; an instruction on, but not from the start; at an NMI; and where switches, coins and
 -- all else outside turn to any bytes. Amid an NMI it says where its routine is to come back, and no other NMI comes till then
 pub data IsBoot (rom : ℕ → ℕ) (start : ℕ) : (amid : Option ℕ) → Cpu → Type 0 where
-  from_vector : (cpu : Cpu) → IsLoaded rom cpu.mem → cpu.pc ≡ word_at rom reset_vector → AreBytes cpu
+  from_vector : (cpu : Cpu) → IsLoaded rom cpu.mem → cpu.pc ≡ word_at rom reset_vector → IsByteWide cpu
       → IsBoot rom start None cpu
   by_step : {amid : Option ℕ} {cpu : Cpu} (flags : ℕ → ℕ) → IsBoot rom start amid cpu → nat_eq cpu.pc start ≡ false
       → flags 0 < 256 → IsBoot rom start amid (done flags cpu)
@@ -40,13 +40,13 @@ AreBooting rom start cells = (amid : Option ℕ) × (cpu : Cpu) × IsBoot rom st
 
 -- the cells did what a 6502 by its definition does with this ROM: their clocks of the board are those of a run of it; and in
 -- the first clock of a cycle that reads an opcode they have its registers, or those of one that boots. There is a log that
--- these clocks make, as `Keeps` has it; the machine's board is the one of these clocks, and has the core and the RAM of the
--- board that the log is of, whose RAM is what the log says
+-- these clocks make, as `GameKeepsHeadline` has it; the machine's board is the one of these clocks, and has the core and
+-- the RAM of the board that the log is of, whose RAM is what the log says
 pub record CellsKeep (R image : List ℕ) (held rom : ℕ → ℕ) (start : ℕ) (machine : Machine) (clocks : List Bus) : Type 0 where
   pub spot : Option (Cpu × ℕ)
   pub game : IsCabinet R image held rom start spot clocks
   pub registers : machine.answers ≡ 0 → sync machine ≡ 1 → StandAt machine.cpu spot ⊎ AreBooting rom start machine.cpu
-  pub keeps : Keeps R image held clocks
+  pub keeps : GameKeepsHeadline R image held clocks
   pub board : machine.board ≡ after held clocks
   pub draw : DrawAlike machine.board (after held keeps.shown)
   pub memory : HoldsRam image held keeps.log clocks

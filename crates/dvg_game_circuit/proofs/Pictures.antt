@@ -11,7 +11,7 @@ use Rattle.dvg_gen.specs.Run.{Finished, fate}
 use Rattle.dvg_gen.specs.Counting.{followed_all}
 use Rattle.dvg_cells_core.specs.Refines.{Agrees}
 use Rattle.dvg_cells_core.specs.Tells.{moves_of}
-use Rattle.dvg_cells_motion.specs.Machine.{Follows, HaltedTells, MachineFollows, cores, ticks}
+use Rattle.dvg_cells_motion.specs.Machine.{CountersFollow, HaltedTells, MachineFollows, cores, ticks}
 use Rattle.dvg_cells_motion.specs.Pulses.{counters_of}
 use Rattle.dvg_cells_motion.specs.Machine as drawn
 use Rattle.dvg_cells_motion.specs.Times.{AtOnce, GoOn, TakesPicture, last_tick, late, run_ticks, tick_before, uses_ram}
@@ -25,8 +25,8 @@ use Rattle.dvg_game_circuit.proofs.CircuitAsCells.{vectors_after, vectors_driven
 
 -- what is said of the vectors after their clocks, of any that are the same
 abbrev Drawn : (ℕ → ℕ) → List vectors.Bus → vectors.Vectors → Type 0
-Drawn ram seen v = Follows (cores ram seen) v.pace v.motion
-    × (vectors.halted v ≡ 1 → (is : Follows (cores ram seen) v.pace v.motion) × (is.agrees.run.is_open ≡ false)
+Drawn ram seen v = CountersFollow (cores ram seen) v.pace v.motion
+    × (vectors.halted v ≡ 1 → (is : CountersFollow (cores ram seen) v.pace v.motion) × (is.agrees.run.is_open ≡ false)
     × (counters_of v.motion ≡ followed_all is.began (moves_of is.agrees.run)))
 
 pub draws : MachineFollows → HaltedTells → CircuitDraws

@@ -7,7 +7,7 @@ use Rattle.dvg_cells_core.specs.Refines.{Agrees}
 use Rattle.dvg_cells_core.specs.Tells.{moves_of}
 use Rattle.dvg_cells_board.specs.Board.{starts}
 use Rattle.dvg_cells_motion.specs.Vectors as vectors
-use Rattle.dvg_cells_motion.specs.Machine.{Follows, cores, ticks}
+use Rattle.dvg_cells_motion.specs.Machine.{CountersFollow, cores, ticks}
 use Rattle.dvg_cells_motion.specs.Pulses.{counters_of}
 use Rattle.dvg_cells_motion.specs.Times.{GoOn, late, run_ticks}
 use Rattle.dvg_game_circuit.specs.Game.{Bus, halted, drives_vectors}
@@ -22,16 +22,16 @@ OfEachCircuit P = (R image : List ℕ) (rom : ℕ → ℕ) (held : Held) → IsR
 -- the beam's counters follow the run that its core has
 abbrev pub IsFollowed : Held → List Bus → Type 0
 IsFollowed held clocks =
-    Follows (cores held.ram (vector_clocks held clocks)) (after held clocks).vectors.pace (after held clocks).vectors.motion
+    CountersFollow (cores held.ram (vector_clocks held clocks)) (after held clocks).vectors.pace (after held clocks).vectors.motion
 
 -- and where the pin `halted` is high, no run is open, and they are those to which all moves of the newest one lead
-pub record IsDrawn (held : Held) (clocks : List Bus) : Type 0 where
+pub record DrawsRun (held : Held) (clocks : List Bus) : Type 0 where
   pub follows : IsFollowed held clocks
   pub drawn : halted (after held clocks) ≡ 1 → (is : IsFollowed held clocks) × (is.agrees.run.is_open ≡ false)
       × (counters_of (after held clocks).vectors.motion ≡ followed_all is.began (moves_of is.agrees.run))
 
 abbrev pub CircuitDraws : Type 0
-CircuitDraws = OfEachCircuit (λ held. (clocks : List Bus) → All IsBus clocks → IsDrawn held clocks)
+CircuitDraws = OfEachCircuit (λ held. (clocks : List Bus) → All IsBus clocks → DrawsRun held clocks)
 
 -- the clocks of the vectors, in these later clocks after others
 abbrev pub later_clocks : Held → (clocks later : List Bus) → List vectors.Bus

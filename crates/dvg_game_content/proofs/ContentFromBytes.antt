@@ -15,7 +15,7 @@ use Rattle.dvg_game_rules.specs.Alike.{idle, of_cpu}
 use Rattle.dvg_game_rules.proofs.Facts.{both_true, not_true, under}
 use Rattle.dvg_game_rules.proofs.RunsAreSafe.{checked_is_safe}
 use Rattle.dvg_game_6502.specs.Play
-use Rattle.dvg_game_6502.specs.Play.{AreBytes, IsPlay, begins, does, nmi, turns, done, interrupted, made}
+use Rattle.dvg_game_6502.specs.Play.{IsByteWide, IsPlay, begins, does, nmi, turns, done, interrupted, made}
 use Rattle.dvg_game_6502.specs.Games.{Content, Enters, IsTable, IsWord}
 use Rattle.dvg_game_6502.proofs.CheckerFollows.{calls_as, is_finish, restarts_same}
 use Rattle.dvg_game_6502.proofs.Bearers.{Bearer}
@@ -68,7 +68,7 @@ module _ (R : List ℕ) (rom : ℕ → ℕ) (start : ℕ) (notes : Notes) (ways 
     pub puts : word_at cpu.mem (cpu.pc + 1) ≡ dvg_put → IsWord R cpu
     pub no_pair : word_at cpu.mem (cpu.pc + 1) ≡ dvg_pair → ⊥
 
-  bringing : (cpu : Cpu) (since : ℕ) → Mine R rom start notes ways drafts accepted brought cpu since → AreBytes cpu
+  bringing : (cpu : Cpu) (since : ℕ) → Mine R rom start notes ways drafts accepted brought cpu since → IsByteWide cpu
       → Play.restarts cpu ≡ false → calling (kind_of (cpu.mem cpu.pc)) (idle cpu) ≡ true → Bringing cpu
   bringing cpu since m bytes go is = record {
     offers = λ to.
@@ -133,7 +133,7 @@ module _ (R : List ℕ) (rom : ℕ → ℕ) (start : ℕ) (notes : Notes) (ways 
       by before (stage_bytes game flags small before.0)
     where
       in_game : (g : InGame R B rom start cpu since log) → Mine R rom start notes ways drafts accepted brought cpu since
-          → AreBytes (done flags cpu) → (t : Bool) → calling (kind_of (cpu.mem cpu.pc)) (idle cpu) ≡ t
+          → IsByteWide (done flags cpu) → (t : Bool) → calling (kind_of (cpu.mem cpu.pc)) (idle cpu) ≡ t
           → Known_stage (done flags cpu) (suc since) (made cpu (done flags cpu) ++ log)
       in_game g m bytes false is = (
         inl (subst (λ l. InGame R B rom start (done flags cpu) (suc since) (l ++ log))
@@ -153,7 +153,7 @@ module _ (R : List ℕ) (rom : ℕ → ℕ) (start : ℕ) (notes : Notes) (ways 
       shows : (d : InDriver R B rom start cpu log) → made cpu (done flags cpu) ++ log ≡ seen (done flags cpu).log ++ log
       shows d = ap (λ (t : Bool). (if t then seen (done flags cpu).log else []) ++ log) d.place
 
-      in_driver : (d : InDriver R B rom start cpu log) → AreBytes (done flags cpu) → (t : Bool) → at_return d.s cpu ≡ t
+      in_driver : (d : InDriver R B rom start cpu log) → IsByteWide (done flags cpu) → (t : Bool) → at_return d.s cpu ≡ t
           → Known_stage (done flags cpu) (suc since) (made cpu (done flags cpu) ++ log)
       in_driver d bytes false is = (inr (inl (driver_step game d flags _ is bytes (shows d))), tt)
       in_driver d bytes true is =
@@ -161,13 +161,13 @@ module _ (R : List ℕ) (rom : ℕ → ℕ) (start : ℕ) (notes : Notes) (ways 
             inl (subst (λ w. InGame R B rom start (done flags cpu) (suc since) w) (B.nothing log _
                 (subst (λ (k : Cpu). made cpu (done flags cpu) ++ log ≡ seen k.log ++ log) same (shows d)))
                 (subst (λ k. InGame R B rom start k (suc since) log) (sym same)
-                (driver_returns game d is since flags (subst AreBytes same bytes)))),
+                (driver_returns game d is since flags (subst IsByteWide same bytes)))),
             subst (λ k. Mine R rom start notes ways drafts accepted brought k (suc since)) (sym same)
                 (mine_returns R rom start notes ways drafts accepted brought game cpu log d is since flags
-                (subst AreBytes same bytes)),
+                (subst IsByteWide same bytes)),
           )
 
-      in_nmi : (n : InNmi R B rom start cpu since log) → AreBytes (done flags cpu) → (t : Bool)
+      in_nmi : (n : InNmi R B rom start cpu since log) → IsByteWide (done flags cpu) → (t : Bool)
           → is_finish (kind_of (cpu.mem cpu.pc)) ≡ t
           → Known_stage (done flags cpu) (suc since) (made cpu (done flags cpu) ++ log)
       in_nmi n bytes false is = (
@@ -180,11 +180,11 @@ module _ (R : List ℕ) (rom : ℕ → ℕ) (start : ℕ) (notes : Notes) (ways 
             inr (inl (subst (λ l. InDriver R B rom start (done flags cpu) (l ++ log))
                 (sym (made_none cpu (done flags cpu) (outside game n)))
                 (subst (λ k. InDriver R B rom start k log) (sym same)
-                (nmi_ends game n go is flags (subst AreBytes same bytes))))),
+                (nmi_ends game n go is flags (subst IsByteWide same bytes))))),
             tt,
           )
 
-      by : Known_stage cpu since log → AreBytes (done flags cpu)
+      by : Known_stage cpu since log → IsByteWide (done flags cpu)
           → Known_stage (done flags cpu) (suc since) (made cpu (done flags cpu) ++ log)
       by (inl g, m) bytes = in_game g m bytes (calling (kind_of (cpu.mem cpu.pc)) (idle cpu)) refl
       by (inr (inl d), none) bytes = in_driver d bytes (at_return d.s cpu) refl

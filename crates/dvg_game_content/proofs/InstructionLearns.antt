@@ -9,11 +9,11 @@ use Rattle.dvg_calls_6502.specs.Processor.{Cpu, A, X, Y, AbsoluteY, decoded, opc
 use Rattle.dvg_game_rules.specs.Kinds.{Nothing, Only, Kind, Quiet, Reads, Transfer, Stores, Push, PushFlags, Pull, PullFlags}
 use Rattle.dvg_game_rules.specs.Kinds.{Branch, Jump, Call, Return, Finish, Wild, kind_of}
 use Rattle.dvg_game_rules.specs.Machine.{State, Choice, IsLoaded, word_at, does}
-use Rattle.dvg_game_rules.specs.Alike.{AreAlike, of_cpu}
+use Rattle.dvg_game_rules.specs.Alike.{MatchesCpu, of_cpu}
 use Rattle.dvg_game_rules.proofs.Facts.{IsInside, both_true}
 use Rattle.dvg_game_rules.proofs.NmiStepsHold.{opcode_there, first_there, second_there}
 use Rattle.dvg_game_rules.proofs.LocalKinds.{ticked}
-use Rattle.dvg_game_6502.specs.Play.{AreBytes, done, fresh}
+use Rattle.dvg_game_6502.specs.Play.{IsByteWide, done, fresh}
 use Rattle.dvg_game_content.specs.Brings.{Known, Any, Is, Under, By, bound, fixed, Fact, nothing, with_bits, listed, smaller, kept_by, next}
 
 -- a byte is what it is known to be
@@ -71,7 +71,7 @@ same_registers f cpu new a x y small is = record {
 }
 
 keeps : (kind : Kind) (cpu new : Cpu) (st : State) (choice : Choice)
-    → AreAlike (does kind choice (ticked (of_cpu cpu st))) new → new.y < 256 → (f : Fact) → HoldsAt f cpu
+    → MatchesCpu (does kind choice (ticked (of_cpu cpu st))) new → new.y < 256 → (f : Fact) → HoldsAt f cpu
     → HoldsAt (kept_by kind f) new
 keeps (Quiet Nothing bytes) cpu new st choice alike small f is = same_registers f cpu new alike.a alike.x alike.y small is
 keeps (Reads Nothing place) cpu new st choice alike small f is = same_registers f cpu new alike.a alike.x alike.y small is
@@ -80,7 +80,7 @@ keeps Branch cpu new st choice alike small f is = same_registers f cpu new alike
 keeps _ cpu new st choice alike small f is = holds_nothing new.a new.x new.y new.c small
 
 module _ (rom : ℕ → ℕ) (cpu : Cpu) (flags : ℕ → ℕ) (loaded : IsLoaded rom cpu.mem) (inside : IsInside cpu.pc)
-    (bytes : AreBytes cpu) where
+    (bytes : IsByteWide cpu) where
   abbrev from : Cpu
   from = fresh flags cpu
 
@@ -207,8 +207,8 @@ module _ (rom : ℕ → ℕ) (cpu : Cpu) (flags : ℕ → ℕ) (loaded : IsLoade
 
   -- where it goes on behind itself
   pub advances : (st : State) (choice : Choice)
-      → AreAlike (does (kind_of (rom cpu.pc)) choice (ticked (of_cpu cpu st))) (done flags cpu)
-      → AreBytes (done flags cpu) → (rom cpu.pc ≡ 0xB0 → cpu.c ≡ false) → (f : Fact) → HoldsAt f cpu
+      → MatchesCpu (does (kind_of (rom cpu.pc)) choice (ticked (of_cpu cpu st))) (done flags cpu)
+      → IsByteWide (done flags cpu) → (rom cpu.pc ≡ 0xB0 → cpu.c ≡ false) → (f : Fact) → HoldsAt f cpu
       → HoldsAt (next rom cpu.pc f) (done flags cpu)
   advances st choice alike after clear f h =
       choose P (nat_eq (rom cpu.pc) 0xA9) _ _ (λ e. lda f (eqb-true (rom cpu.pc) 0xA9 e) h) (λ n.

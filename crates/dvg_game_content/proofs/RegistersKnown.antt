@@ -13,13 +13,13 @@ use Rattle.dvg_game_rules.specs.Machine.{called, calling, is_driver, restarting,
 use Rattle.dvg_game_rules.specs.Machine as machine
 use Rattle.dvg_game_rules.specs.Checker.{Notes, accepts}
 use Rattle.dvg_game_rules.specs.Safe.{IsSafe, IsSafeBy}
-use Rattle.dvg_game_rules.specs.Alike.{AreAlike, idle, of_cpu}
+use Rattle.dvg_game_rules.specs.Alike.{MatchesCpu, idle, of_cpu}
 use Rattle.dvg_game_rules.proofs.Facts.{both_true}
 use Rattle.dvg_game_rules.proofs.NmiStepsHold.{first_there}
 use Rattle.dvg_game_rules.proofs.LocalKinds.{ticked}
 use Rattle.dvg_game_rules.proofs.RunsAreSafe.{checked_is_safe}
 use Rattle.dvg_game_6502.specs.Play
-use Rattle.dvg_game_6502.specs.Play.{AreBytes, Begins, done, fresh, interrupted}
+use Rattle.dvg_game_6502.specs.Play.{Begins, IsByteWide, done, fresh, interrupted}
 use Rattle.dvg_game_6502.proofs.CheckerFollows.{Followed, along, amid_stays, follow, homeless, is_finish, restarts_same}
 use Rattle.dvg_game_6502.proofs.GameSteps.{pushing, run_begins}
 use Rattle.dvg_game_6502.proofs.Leaps.{finishing, resume_is}
@@ -65,7 +65,7 @@ module _ (R : List ℕ) (rom : ℕ → ℕ) (start : ℕ) (notes : Notes) (ways 
         (ap (is_free ways) is.entry ∙ start_free R rom start notes ways drafts accepted brought) is.bytes.y;
   }
 
-  module _ (cpu : Cpu) (since : ℕ) (m : Mine cpu since) (bytes : AreBytes cpu) where
+  module _ (cpu : Cpu) (since : ℕ) (m : Mine cpu since) (bytes : IsByteWide cpu) where
     abbrev pub here : State
     here = of_cpu cpu m.st
 
@@ -81,16 +81,16 @@ module _ (R : List ℕ) (rom : ℕ → ℕ) (start : ℕ) (notes : Notes) (ways 
     operand : cpu.mem (cpu.pc + 1) ≡ rom (cpu.pc + 1)
     operand = first_there rom cpu.mem cpu.pc at.loaded at.at
 
-    module _ (flags : ℕ → ℕ) (after : AreBytes (done flags cpu)) (told : Lands ways rom cpu) where
+    module _ (flags : ℕ → ℕ) (after : IsByteWide (done flags cpu)) (told : Lands ways rom cpu) where
       abbrev new : Cpu
       new = done flags cpu
 
       -- what it makes of what is known
       makes : (kind : Kind) → kind_of (rom cpu.pc) ≡ kind → (choice : Choice)
-          → AreAlike (does kind choice (ticked here)) new → (rom cpu.pc ≡ 0xB0 → cpu.c ≡ false)
+          → MatchesCpu (does kind choice (ticked here)) new → (rom cpu.pc ≡ 0xB0 → cpu.c ≡ false)
           → (k : ℕ) → HoldsAt (next rom cpu.pc (fact ways rom k cpu.pc)) new
       makes kind is choice alike clear k = advances rom cpu flags at.loaded at.at bytes m.st choice
-          (subst (λ k. AreAlike (does k choice (ticked here)) new) (sym is) alike) after clear (fact ways rom k cpu.pc)
+          (subst (λ k. MatchesCpu (does k choice (ticked here)) new) (sym is) alike) after clear (fact ways rom k cpu.pc)
           (told k)
 
       no_branch : (kind : Kind) → kind_of (rom cpu.pc) ≡ kind → is_branch kind ≡ false → rom cpu.pc ≡ 0xB0
@@ -99,13 +99,13 @@ module _ (R : List ℕ) (rom : ℕ → ℕ) (start : ℕ) (notes : Notes) (ways 
           ∙ ap is_branch is in absurd (let f = one ∙ none in cc)
 
       on : (kind : Kind) → kind_of (rom cpu.pc) ≡ kind → (choice : Choice)
-          → AreAlike (does kind choice (ticked here)) new → is_branch kind ≡ false → (n : ℕ) → new.pc ≡ cpu.pc + n
+          → MatchesCpu (does kind choice (ticked here)) new → is_branch kind ≡ false → (n : ℕ) → new.pc ≡ cpu.pc + n
           → passes_on ways cpu.pc n ≡ true → Lands ways rom new
       on kind is choice alike none n place fine = goes_on ways rom new cpu.pc n place fine after.y
           (makes kind is choice alike (no_branch kind is none))
 
       -- a branch
-      branches : kind_of (rom cpu.pc) ≡ Branch → (choice : Choice) → AreAlike (does Branch choice (ticked here)) new
+      branches : kind_of (rom cpu.pc) ≡ Branch → (choice : Choice) → MatchesCpu (does Branch choice (ticked here)) new
           → flows ways rom cpu.pc Branch ≡ true → Lands ways rom new
       branches is choice alike flow = by (nat_eq (rom cpu.pc) 0xB0) refl
         where
@@ -143,7 +143,7 @@ module _ (R : List ℕ) (rom : ℕ → ℕ) (start : ℕ) (notes : Notes) (ways 
 
       -- each instruction that calls no driver leads to where what is known holds
       lands_by : (kind : Kind) → kind_of (rom cpu.pc) ≡ kind → (choice : Choice)
-          → AreAlike (does kind choice (ticked here)) new → flows ways rom cpu.pc kind ≡ true
+          → MatchesCpu (does kind choice (ticked here)) new → flows ways rom cpu.pc kind ≡ true
           → restarting kind here ≡ false → calling kind here ≡ false → is_finish kind ≡ false → IsSafeBy kind here
           → Lands ways rom new
       lands_by (Quiet sets n) is choice alike flow go calls more safe =
@@ -183,7 +183,7 @@ module _ (R : List ℕ) (rom : ℕ → ℕ) (start : ℕ) (notes : Notes) (ways 
 
     -- an instruction of the game, or of an NMI that came amid it
     pub mine_steps : (flags : ℕ → ℕ) → Play.restarts cpu ≡ false → calling (kind_of (cpu.mem cpu.pc)) here ≡ false
-        → AreBytes (done flags cpu) → Mine (done flags cpu) (suc since)
+        → IsByteWide (done flags cpu) → Mine (done flags cpu) (suc since)
     mine_steps flags go calls after = record {
       st = step did.choice here;
       run = did.run;
@@ -253,7 +253,7 @@ module _ (R : List ℕ) (rom : ℕ → ℕ) (start : ℕ) (notes : Notes) (ways 
   pub mine_returns : (game : IsAccepted rom start) (cpu : Cpu) (log : List Access)
       (d : InDriver R (on_log R) rom start cpu log)
       (there : at_return d.s cpu ≡ true) (since : ℕ) (flags : ℕ → ℕ)
-      → AreBytes (returning.ret game d there since flags)
+      → IsByteWide (returning.ret game d there since flags)
       → Mine (returning.ret game d there since flags) (suc since)
   mine_returns game cpu log d there since flags bytes = record {
     st = came.st;

@@ -13,7 +13,7 @@ use Rattle.dvg_game_rules.specs.Machine.{Begins, Came, Choice, IsLoaded, IsTurne
 use Rattle.dvg_game_rules.specs.Machine.{nmi_vector, of_register, pushed, reset_vector, restarting, setting, word_at}
 use Rattle.dvg_game_rules.specs.Checker.{Notes, accepts_game, fine_by, interrupts, may_write, noted, of_reached, same_level, starts, Sub}
 use Rattle.dvg_game_rules.specs.Safe.{ComesBack, InCase, IsCalled, IsSafeBy}
-use Rattle.dvg_game_rules.specs.Alike.{AreAlike, IsOwn, idle}
+use Rattle.dvg_game_rules.specs.Alike.{IsOwn, MatchesCpu, idle}
 use Rattle.dvg_game_rules.proofs.StepsByKind.{steps_alike}
 use Rattle.dvg_game_rules.proofs.CallsAndReturns.{Enters, comes_so, entering}
 use Rattle.dvg_game_rules.proofs.Facts.{IsInside, both_true, placed}
@@ -255,7 +255,7 @@ pub record IsBack (rom : ℕ → ℕ) (back cpu : Cpu) : Type 0 where
   pub x : cpu.x ≡ back.x
 
 -- a step of the machine is one of the processor
-as_cpu : (gap : ℕ) (rom : ℕ → ℕ) (came : Came) (since : ℕ) (one st : State) (cpu : Cpu) → AreAlike one cpu
+as_cpu : (gap : ℕ) (rom : ℕ → ℕ) (came : Came) (since : ℕ) (one st : State) (cpu : Cpu) → MatchesCpu one cpu
     → AreTurned gap rom came since one st → AreTurned gap rom came since (idle cpu) st
 as_cpu gap rom came since one st cpu is r = record {
   a = sym is.a ∙ r.a;
@@ -329,7 +329,7 @@ module _ {rom : ℕ → ℕ} {start : ℕ} {back : Cpu} {since : ℕ} {cpu : Cpu
   early_steps x_in y_in =
       by (follows rom e.notes e.gap (upon back) since (idle cpu) e.st e.turned e.good.loaded handles choice kind fine early_safe)
     where
-      like : (choice : Choice) × AreAlike (does kind choice (ticked (idle cpu))) (Processor.step cpu)
+      like : (choice : Choice) × MatchesCpu (does kind choice (ticked (idle cpu))) (Processor.step cpu)
       like = steps_alike cpu (idle cpu) (own x_in y_in)
 
       choice : Choice
@@ -352,7 +352,7 @@ module _ {rom : ℕ → ℕ} {start : ℕ} {back : Cpu} {since : ℕ} {cpu : Cpu
             (Processor.step cpu) like.1 on;
       })
       by (inr last) =
-          let after = subst (λ k. AreAlike (does k choice (ticked (idle cpu))) (Processor.step cpu)) last like.1 in
+          let after = subst (λ k. MatchesCpu (does k choice (ticked (idle cpu))) (Processor.step cpu)) last like.1 in
           let safe = subst (λ k. IsSafeBy k e.st) last early_safe in
           let came = same_came (upon back) _ (sym e.turned.amid ∙ safe) in
           let byte = pulled rom e.notes e.gap (upon back) since (idle cpu) e.st e.turned e.good.loaded handles in

@@ -13,7 +13,7 @@ use Rattle.dvg_game_rules.specs.Machine.{pushed, interrupted, Begins, IsRun, beg
 use Rattle.dvg_game_rules.specs.Checker.{boots, boot_most, stand_at, implies, ends_of, Main, Sub}
 use Rattle.dvg_game_rules.specs.Checker.{Nmi, Note, Notes, noted, leads, begun, spare, interrupts, starts, same_level}
 use Rattle.dvg_game_rules.specs.Checker.{fine_by, accepts_game, enters, is_entry}
-use Rattle.dvg_game_rules.specs.Safe.{AreBytes, IsSafe, CheckedSafe}
+use Rattle.dvg_game_rules.specs.Safe.{BytesLieAt, IsSafe, CheckedSafe}
 use Rattle.dvg_game_rules.proofs.Facts.{IsInside, is_inside, placed, both_true, not_true, same}
 use Rattle.dvg_game_rules.proofs.RunInvariant.{Fresh, Below, Runs, Handles, Good, low}
 use Rattle.dvg_game_rules.proofs.Memory.{left_rom, other, above_pushed}
@@ -209,7 +209,7 @@ good_run rom start notes accepted (turns {st} mem run same) =
 
 -- the driver's bytes
 bytes_there : (bytes : List ℕ) (rom mem : ℕ → ℕ) (at : ℕ) → 0x4800 ≤ at → at + length bytes ≤ 0x8000 → IsLoaded rom mem
-    → stand_at bytes rom at ≡ true → AreBytes bytes mem at
+    → stand_at bytes rom at ≡ true → BytesLieAt bytes mem at
 bytes_there [] rom mem at low high same is = tt
 bytes_there (byte ∷ bytes) rom mem at low high same is =
     let two = both_true (nat_eq (rom at) byte) _ is in (
@@ -231,7 +231,7 @@ checked_is_safe rom start notes all st run = by good.stage
     good : Good rom notes st
     good = good_run rom start notes two.0 run
 
-    driver : AreBytes code st.mem 0x6800
+    driver : BytesLieAt code st.mem 0x6800
     driver = bytes_there code rom st.mem 0x6800 (omega arith) driver_ends good.loaded
         (both_true (stand_at code rom 0x6800) _ two.1).0
 

@@ -8,7 +8,7 @@ use Rattle.dvg_game_rules.specs.Kinds.{Sets, Nothing, Only, Place, ZeroPage, Zer
 use Rattle.dvg_game_rules.specs.Kinds.{Kind, Quiet, Reads, Transfer, Stores, Jump, Call, Finish, Wild, kind, taking, storing}
 use Rattle.dvg_game_rules.specs.Machine.{State, Choice, does, word_at, is_driver, goes_home, resumed_at}
 use Rattle.dvg_game_rules.specs.Machine.{returned, driven, called, of_register}
-use Rattle.dvg_game_rules.specs.Alike.{of_cpu, AreAlike, IsOwn, StepsAlike, InterruptsAlike}
+use Rattle.dvg_game_rules.specs.Alike.{of_cpu, MatchesCpu, IsOwn, StepsAlike, InterruptsAlike}
 use Rattle.dvg_game_rules.proofs.LocalKinds.{ticked}
 
 -- choices of the machine: registers and memory as they are after the instruction
@@ -28,7 +28,7 @@ left_as after index byte taken = record {
 
 -- a step of this kind leaves the processor's state
 abbrev Leads : Kind → Cpu → (after : Cpu) → State → Type 0
-Leads kind cpu after st = (choice : Choice) × AreAlike (does kind choice (ticked (of_cpu cpu st))) after
+Leads kind cpu after st = (choice : Choice) × MatchesCpu (does kind choice (ticked (of_cpu cpu st))) after
 
 -- registers but one are as they were
 abbrev Kept : Sets → (cpu after : Cpu) → Type 0
@@ -237,7 +237,7 @@ jumps cpu st go = (left_as cpu 0 0 false, by (is_driver (word_at cpu.mem (cpu.pc
     one = ticked (of_cpu cpu st)
 
     by : (t : Bool) → t ≡ false
-        → AreAlike (if t then returned (driven (word_at cpu.mem (cpu.pc + 1)) (left_as cpu 0 0 false) one)
+        → MatchesCpu (if t then returned (driven (word_at cpu.mem (cpu.pc + 1)) (left_as cpu 0 0 false) one)
         else record one { pc = word_at cpu.mem (cpu.pc + 1) }) (Processor.does Processor.Jump cpu)
     by true is = absurd (cc)
     by false is = record { a = refl; x = refl; y = refl; pc = sym (next_word cpu); s = refl; mem = λ b. refl }
@@ -251,7 +251,7 @@ calls cpu st go = (left_as cpu 0 0 false, by (is_driver (word_at cpu.mem (cpu.pc
     one = ticked (of_cpu cpu st)
 
     by : (t : Bool) → t ≡ false
-        → AreAlike (if t then record (driven (word_at cpu.mem (cpu.pc + 1)) (left_as cpu 0 0 false) one) {
+        → MatchesCpu (if t then record (driven (word_at cpu.mem (cpu.pc + 1)) (left_as cpu 0 0 false) one) {
           pc = cpu.pc + 3;
         }
         else called (word_at cpu.mem (cpu.pc + 1)) one) (Processor.does Processor.Call cpu)
@@ -266,7 +266,7 @@ resumes cpu st out = (left_as cpu 0 0 false, by st.home out)
     one = ticked (of_cpu cpu st)
 
     by : (home : Option (ℕ × ℕ)) → home ≡ None
-        → AreAlike (goes_home home (record one {
+        → MatchesCpu (goes_home home (record one {
           pc = resumed_at one;
           s = (one.s + 3) % 256;
           amid = None;

@@ -12,7 +12,7 @@ use Rattle.dvg_game_rules.specs.Safe.{IsSafeBy}
 abbrev pub of_cpu : Cpu → State → State
 of_cpu cpu st = record st { a = cpu.a; x = cpu.x; y = cpu.y; pc = cpu.pc; s = cpu.s; mem = cpu.mem }
 
-pub record AreAlike (st : State) (cpu : Cpu) : Type 0 where
+pub record MatchesCpu (st : State) (cpu : Cpu) : Type 0 where
   pub a : st.a ≡ cpu.a
   pub x : st.x ≡ cpu.x
   pub y : st.y ≡ cpu.y
@@ -32,13 +32,13 @@ IsOwn kind cpu st = Unit {0}
 -- each opcode, whatever its flags and operands are
 abbrev pub StepsAlike : Type 0
 StepsAlike = (cpu : Cpu) (st : State) → IsOwn (kind_of (cpu.mem cpu.pc)) cpu st
-    → (choice : Choice) × AreAlike (step choice (of_cpu cpu st)) (Processor.step cpu)
+    → (choice : Choice) × MatchesCpu (step choice (of_cpu cpu st)) (Processor.step cpu)
 
 -- an NMI, which pushes the flags: A15 isn't decoded, so it goes by the ROM's vector
 abbrev pub InterruptsAlike : Type 0
 InterruptsAlike = (cpu : Cpu) (st : State) → word_at cpu.mem 0xFFFA ≡ word_at cpu.mem nmi_vector
     → (choice : Choice) × (choice.byte ≡ Processor.flags_byte false cpu)
-    × AreAlike (interrupted choice (of_cpu cpu st)) (Processor.interrupted cpu)
+    × MatchesCpu (interrupted choice (of_cpu cpu st)) (Processor.interrupted cpu)
 
 -- this many steps of the processor
 abbrev pub after : ℕ → Cpu → Cpu

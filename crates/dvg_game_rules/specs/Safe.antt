@@ -62,13 +62,13 @@ IsSafeBy Finish st = st.amid ≡ Some (record {
 IsSafeBy Wild st = ⊥
 
 -- these bytes stand there
-abbrev pub AreBytes : List ℕ → (ℕ → ℕ) → ℕ → Type 0
-AreBytes [] mem at = Unit {0}
-AreBytes (byte ∷ bytes) mem at = (mem at ≡ byte) × AreBytes bytes mem (suc at)
+abbrev pub BytesLieAt : List ℕ → (ℕ → ℕ) → ℕ → Type 0
+BytesLieAt [] mem at = Unit {0}
+BytesLieAt (byte ∷ bytes) mem at = (mem at ≡ byte) × BytesLieAt bytes mem (suc at)
 
 pub record IsSafe (rom : ℕ → ℕ) (st : State) : Type 0 where
   pub rom_kept : IsLoaded rom st.mem
-  pub driver : AreBytes code st.mem 0x6800
+  pub driver : BytesLieAt code st.mem 0x6800
   -- PC is in the game's code, where calls of the driver are one step
   pub inside : is_code st.pc ≡ true
   pub next : IsSafeBy (kind_of (st.mem st.pc)) st

@@ -20,8 +20,8 @@ pub record IsState (state : GeneratorState) : Type 0 where
   pub beam : IsBeam state.x state.y state.scale
 
 -- one that can be in a state, if this holds, goes on in it with these strokes of its run, each of which is one
-abbrev pub GoesOn : (CanBe : Type 0) → List Stroke → Type 0
-GoesOn CanBe strokes = CanBe × All IsStroke strokes
+abbrev pub CanResume : (CanBe : Type 0) → List Stroke → Type 0
+CanResume CanBe strokes = CanBe × All IsStroke strokes
 
 -- a generator whose stack wraps can be in a state: a generator can, and there are four return addresses
 pub record IsWrappedState (state : GeneratorState) : Type 0 where

@@ -16,7 +16,7 @@ ghost use Rattle.dvg_gen.specs.Moving.{AddsMoves, CompletesMove, IsMove, begins_
 ghost use Rattle.dvg_gen.specs.Obeyed.{IsLabs, Obeyed};
 ghost use Rattle.dvg_gen.specs.Position.{IsStroke};
 ghost use Rattle.dvg_gen.specs.Run as spec;
-ghost use Rattle.dvg_gen.specs.Saved.{GoesOn, IsReturns, IsState, machine_of};
+ghost use Rattle.dvg_gen.specs.Saved.{CanResume, IsReturns, IsState, machine_of};
 ghost use Rattle.dvg_gen.specs.Told.{Drew, Told, Start, Reset, wants};
 ghost use Rattle.dvg_gen.specs.Wrapping.{is_turn, turn_of};
 ghost use Rattle.dvg_gen.specs.declared.TheConstants.{STACK_DEPTH};
@@ -362,7 +362,7 @@ impl<A: Allocator + Copy> Generator<A> {
         state: &GeneratorState,
         strokes: Vec<Stroke, A>,
     ) -> Result<(), GeneratorRefused<A>>
-        ensures taken { IsOk result ↔ GoesOn (IsState state.now) strokes.items }
+        ensures taken { IsOk result ↔ CanResume (IsState state.now) strokes.items }
         ensures machine { OnOk result
             (self.new ≡ machine_of state.now strokes.items self.old.picture) }
         ensures stands { OnOk result ((saved : Machine) (picture : List Stroke)
@@ -383,7 +383,7 @@ impl<A: Allocator + Copy> Generator<A> {
 
     // Does what `resume` does, where `fault_with` finds no fault.
     pub(crate) fn go_on(&mut self, state: &GeneratorState, strokes: Vec<Stroke, A>)
-        requires { GoesOn (IsState state.now) strokes.items }
+        requires { CanResume (IsState state.now) strokes.items }
         ensures machine { self.new ≡ machine_of state.now strokes.items self.old.picture }
         ensures stands { (saved : Machine) (picture : List Stroke)
             (history : List Told) (low : Option ℕ)

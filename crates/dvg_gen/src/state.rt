@@ -1,7 +1,7 @@
 //! A generator's state as a plain value. A generator is saved without its strokes, and resumed with
 //! them: so each clause goes on after the same history.
 ghost use Rattle.std.specs.Prelude.{◌≡◌, ◌↔◌, IfSome, IsNone, IsTrue};
-ghost use Rattle.dvg_gen.specs.Saved.{GoesOn, IsState};
+ghost use Rattle.dvg_gen.specs.Saved.{CanResume, IsState};
 
 use crate::STACK_DEPTH;
 use crate::stroke::Stroke;
@@ -51,7 +51,7 @@ impl GeneratorState {
     /// `Fields` exactly where the state isn't valid, otherwise `Stroke` exactly where one of
     /// `strokes` isn't. `None` means that one can.
     pub fn fault_with(&self, strokes: &[Stroke]) -> Option<GeneratorStateFault>
-        ensures none { IsNone result ↔ GoesOn (IsState self.now) strokes.now }
+        ensures none { IsNone result ↔ CanResume (IsState self.now) strokes.now }
         ensures stroke { IfSome result
             (λ fault. (fault ≡ GeneratorStateFault.Stroke) ↔ IsState self.now) }
     {

@@ -5,7 +5,7 @@ ghost use Rattle.dvg_gen.specs.Bytes.{met};
 ghost use Rattle.dvg_gen.specs.Completing.{DrawsNothing};
 ghost use Rattle.dvg_gen.specs.Machine.{answer_by, picture_after};
 ghost use Rattle.dvg_gen.specs.Run.{on};
-ghost use Rattle.dvg_gen.specs.Saved.{GoesOn, IsWrappedState, wrapped_of};
+ghost use Rattle.dvg_gen.specs.Saved.{CanResume, IsWrappedState, wrapped_of};
 ghost use Rattle.dvg_gen.specs.Told.{Told, Start, Reset};
 ghost use Rattle.dvg_gen.specs.Wrapping.{AnswersWrapped, HasWrapped, Wrapped, jump_of, turn_of};
 ghost use Rattle.dvg_gen.specs.Wrapping.{turned};
@@ -149,7 +149,7 @@ impl<A: Allocator + Copy> WrappingGenerator<A> {
         state: &GeneratorState,
         strokes: Vec<Stroke, A>,
     ) -> Result<(), GeneratorRefused<A>>
-        ensures taken { IsOk result ↔ GoesOn (IsWrappedState state.now) strokes.items }
+        ensures taken { IsOk result ↔ CanResume (IsWrappedState state.now) strokes.items }
         ensures machine { OnOk result
             (self.new ≡ wrapped_of state.now strokes.items self.old.machine.picture) }
         ensures stands { OnOk result ((saved : Wrapped) (picture : List Stroke)

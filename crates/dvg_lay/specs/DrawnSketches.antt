@@ -16,9 +16,9 @@ abbrev pub SketchPictures : Type 0 → Type 0
 SketchPictures A = Result (Vec (Vec Stroke A) A) (Refusal A)
 
 -- what came of it: a refusal tells why a frame isn't drawn
-abbrev pub IsDrawn : {A : Type 0} → (R : List ℕ) → List RomName → List NamedFrame → SketchPictures A → Type 0
-IsDrawn R names frames (Ok pictures) = AllZip (IsDrawnFrame R) frames (strokes_of pictures.items)
-IsDrawn R names frames (Err refusal) = IsUndrawn R names frames refusal
+abbrev pub DrawsSketch : {A : Type 0} → (R : List ℕ) → List RomName → List NamedFrame → SketchPictures A → Type 0
+DrawsSketch R names frames (Ok pictures) = AllZip (IsDrawnFrame R) frames (strokes_of pictures.items)
+DrawsSketch R names frames (Err refusal) = IsUndrawn R names frames refusal
 
 -- the text that is written of it: none of a refusal
 abbrev pub shown : {A : Type 0} → Show → SketchPictures A → List ℕ
@@ -27,4 +27,4 @@ shown show (Err refusal) = []
 
 -- what is answered of an input, and what went out
 abbrev pub Draws : {A : Type 0} → Show → Meaning (SketchPictures A)
-Draws show = Makes IsDrawn (shown show)
+Draws show = Makes DrawsSketch (shown show)

@@ -2,7 +2,7 @@
 ghost use Rattle.std.specs.Prelude.{All, IfOk};
 ghost use Rattle.dvg_io.specs.Faults.{ComesBeforeText};
 ghost use Rattle.dvg_io.specs.Serving.{AreFresh, Serves};
-ghost use Rattle.dvg_lay.specs.DrawnSketches.{Draws, IsDrawn, shown};
+ghost use Rattle.dvg_lay.specs.DrawnSketches.{Draws, DrawsSketch, shown};
 ghost use Rattle.dvg_blame.specs.Refusals.{IsLent};
 ghost use Rattle.dvg_read.specs.declared.draft_text.TheConstants.{MOST_TEXT_BYTES};
 
@@ -31,7 +31,7 @@ fn draw<A: Allocator + Copy>(
     frames: &[NamedFrame],
 ) -> Result<SketchPictures<A>, OutOfMemory>
     requires { All IsLent frames.now }
-    ensures { IfOk result (IsDrawn bytes.now names.now frames.now) }
+    ensures { IfOk result (DrawsSketch bytes.now names.now frames.now) }
 {
     match draw_frames(alloc, bytes, names, frames) {
         Ok(pictures) => Ok(Ok(pictures)),
@@ -49,7 +49,7 @@ struct SvgMaking {
 impl<A: Allocator + Copy> Making<A> for SvgMaking {
     type Made = SketchPictures<A>;
 
-    ghost Comes = { λ drawing. IsDrawn };
+    ghost Comes = { λ drawing. DrawsSketch };
 
     ghost text = { λ drawing. shown drawing.show };
 

@@ -5,7 +5,7 @@ use Rattle.dvg_gen.specs.Bytes.{Waits, Whole}
 use Rattle.dvg_gen.specs.Told.{Told, Fed, Newest, Leaves, Reply, More, Drew, Fails, reply, wants}
 use Rattle.dvg_frame.specs.Faults.{Refuses, Accepts}
 use Rattle.dvg_driver.specs.Script.{Did, IsWhole, IsLife, has_flip}
-use Rattle.dvg_driver.specs.Stands.{Tells}
+use Rattle.dvg_driver.specs.Stands.{ShowsFlag}
 use Rattle.dvg_log.specs.Events.{Happening, IsEvent}
 use Rattle.dvg_log.specs.declared.event.Event.TheVariants.{Offer, Redraw, Tick, Strobe, Fetch, ResetGen, ResetCpu}
 use Rattle.dvg_log.specs.declared.event.Event.TheVariants.{ResetAll}
@@ -38,7 +38,7 @@ Fits R image log Redraw NothingPublished = has_flip (life image log) ≡ false
 Fits R image log Redraw Busy = (has_flip (life image log) ≡ true) × ¬ IsWhole (life image log)
 Fits R image log Redraw Asked = (has_flip (life image log) ≡ true) × IsWhole (life image log)
 -- the action is the next one of the script, and a read of the HALT flag shows whether no run is open
-Fits R image log Tick (Acted action) = IsLife (Did action ∷ life image log) × Tells action (is_none (open_run log))
+Fits R image log Tick (Acted action) = IsLife (Did action ∷ life image log) × ShowsFlag action (is_none (open_run log))
 Fits R image log Strobe Started = strobed log ≡ true
 Fits R image log Strobe NoStrobe = strobed log ≡ false
 -- a fetch is of the wanted address: a low byte waits; a word goes on with a run, finishes or breaks it, as a hole does

@@ -10,7 +10,7 @@ use Rattle.dvg_read.specs.Texts.{lines}
 use Rattle.dvg_read.proofs.LineEnds.{line_at, line_last}
 use Rattle.dvg_read.proofs.FirstBytes.{IsCutAt, behind}
 use Rattle.dvg_read.proofs.Zips.{zip_length, zip_push}
-use Rattle.dvg_logs.specs.LogLines.{IsLogOf, Tells, logged, passed}
+use Rattle.dvg_logs.specs.LogLines.{IsLineOf, IsLogOf, logged, passed}
 use Rattle.dvg_logs.specs.LogTexts.{IsFoundAt, IsLogSo, IsWhole}
 use Rattle.dvg_logs.specs.declared.log_reading.JudgedLines.{JudgedLines}
 use Rattle.dvg_logs.specs.LogReading.{IsOpen, IsRead, HasJudged}
@@ -18,21 +18,21 @@ use Rattle.dvg_logs.specs.Tears.{ended}
 
 -- ---- one more line
 
-tells_more : {base : Option ℕ} (log : Log) (before : List (List ℕ)) (line : Line) (text : List ℕ) → IsLogOf base log before → Tells base line text → IsLogOf base (line ∷ log) (before ++ text ∷ [])
+tells_more : {base : Option ℕ} (log : Log) (before : List (List ℕ)) (line : Line) (text : List ℕ) → IsLogOf base log before → IsLineOf base line text → IsLogOf base (line ∷ log) (before ++ text ∷ [])
 tells_more {base = base} log before line text log_of tells =
-    subst (λ l. AllZip (Tells base) l (before ++ text ∷ [])) (sym (reverse-append (line ∷ []) log)) (zip_push (Tells base) (reverse log) before line text log_of tells)
+    subst (λ l. AllZip (IsLineOf base) l (before ++ text ∷ [])) (sym (reverse-append (line ∷ []) log)) (zip_push (IsLineOf base) (reverse log) before line text log_of tells)
 
 -- the log is as long as its text has lines
 pub log_length : (base : Option ℕ) (log : Log) (texts : List (List ℕ)) → IsLogOf base log texts → length log ≡ length texts
-log_length base log texts log_of = sym (length-reverse log) ∙ zip_length (Tells base) (reverse log) texts log_of
+log_length base log texts log_of = sym (length-reverse log) ∙ zip_length (IsLineOf base) (reverse log) texts log_of
 
-pub fine_more : {base : Option ℕ} {Before After : Log → Type 0} (log : Log) (before : List (List ℕ)) (line : Line) (text : List ℕ) → IsLogSo base Before log before → Tells base line text → After (line ∷ log)
+pub fine_more : {base : Option ℕ} {Before After : Log → Type 0} (log : Log) (before : List (List ℕ)) (line : Line) (text : List ℕ) → IsLogSo base Before log before → IsLineOf base line text → After (line ∷ log)
     → IsLogSo base After (line ∷ log) (before ++ text ∷ [])
 fine_more log before line text fine tells passes = record { tells = tells_more log before line text fine.tells tells; holds = passes }
 
 -- a line decides
 pub found_at : {V : Type 0} {base : Option ℕ} {Passes : Log → Type 0} {Finds : V → Line → Log → Type 0} (log : Log) (before : List (List ℕ)) (line : Line) (text : List ℕ) (after : List (List ℕ)) (verdict : V)
-    → IsLogSo base Passes log before → Tells base line text → Finds verdict line log → (n : ℕ) → n ≡ length before + 1 → IsFoundAt base Passes Finds (before ++ text ∷ after) n verdict
+    → IsLogSo base Passes log before → IsLineOf base line text → Finds verdict line log → (n : ℕ) → n ≡ length before + 1 → IsFoundAt base Passes Finds (before ++ text ∷ after) n verdict
 found_at log before line text after verdict fine tells finds n number = record {
   before = before;
   text = text;
@@ -78,7 +78,7 @@ begins_of [] more unended some = absurd (omega arith)
 begins_of (byte ∷ bytes) more unended some = begins byte bytes more unended
 
 -- a line that is too long tells nothing
-pub too_long : {base : Option ℕ} (text : List ℕ) → 64 < length text → (line : Line) → ¬ Tells base line text
+pub too_long : {base : Option ℕ} (text : List ℕ) → 64 < length text → (line : Line) → ¬ IsLineOf base line text
 too_long text over line (passed short is) = absurd (omega arith)
 too_long text over line (logged short is row) = absurd (omega arith)
 
@@ -129,7 +129,7 @@ module _ {J : Type 0} {base : Option ℕ} {Stands : J → Log → Type 0} {Passe
   }
 
   -- it is too long
-  pub overlong_stops : (P : List (List ℕ) → Type 0) → 64 < length (unfinished ++ bytes) → ((line : List ℕ) (after : List (List ℕ)) → ((logged : Line) → ¬ Tells base logged line) → P (read.texts ++ line ∷ after))
+  pub overlong_stops : (P : List (List ℕ) → Type 0) → 64 < length (unfinished ++ bytes) → ((line : List ℕ) (after : List (List ℕ)) → ((logged : Line) → ¬ IsLineOf base logged line) → P (read.texts ++ line ∷ after))
       → (more : List ℕ) → P (lines (text ++ (bytes ++ more)))
   overlong_stops P over stops more =
       let starts = begins_of (unfinished ++ bytes) more both_open (omega arith) in

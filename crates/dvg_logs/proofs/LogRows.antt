@@ -18,7 +18,7 @@ use Rattle.std.specs.Str.Lines.{strip_carriage_return}
 use Rattle.dvg_read.proofs.FirstBytes.{HasNone}
 use Rattle.dvg_read.proofs.Spaces.{no_space}
 use Rattle.dvg_logs.specs.declared.log_line.LogLine.{LogLine}
-use Rattle.dvg_logs.specs.LogLines.{IsWrittenAt, LogRow, Tells, small, started, fetched, low, wrote, halted, reset, passed, logged}
+use Rattle.dvg_logs.specs.LogLines.{IsWrittenAt, LogRow, IsLineOf, small, started, fetched, low, wrote, halted, reset, passed, logged}
 use Rattle.dvg_logs.specs.LogLineTells.{AreNumbers, AreWritten, line_of}
 
 -- a line is its parts, with a space between each two
@@ -157,15 +157,15 @@ low_numbers {base = base} text rest is row = numbers_in rest (low_row (subst (Lo
 
 -- ---- what is read of a whole line
 
-pub logged_by : (base : Option ℕ) (text : List ℕ) (answer : Option LogLine) → length text ≤ 64 → is_passed (strip_carriage_return text) ≡ false → IfSome answer (λ found. LogRow base (line_of found) (parts (small (strip_carriage_return text)))) → IfSome answer (λ found. Tells base (line_of found) text)
+pub logged_by : (base : Option ℕ) (text : List ℕ) (answer : Option LogLine) → length text ≤ 64 → is_passed (strip_carriage_return text) ≡ false → IfSome answer (λ found. LogRow base (line_of found) (parts (small (strip_carriage_return text)))) → IfSome answer (λ found. IsLineOf base (line_of found) text)
 logged_by base text None short not row = tt
 logged_by base text (Some found) short not row = logged short not row
 
-pub row_of : {base : Option ℕ} {line : Line} (text : List ℕ) → is_passed (strip_carriage_return text) ≡ false → Tells base line text → LogRow base line (parts (small (strip_carriage_return text)))
+pub row_of : {base : Option ℕ} {line : Line} (text : List ℕ) → is_passed (strip_carriage_return text) ≡ false → IsLineOf base line text → LogRow base line (parts (small (strip_carriage_return text)))
 row_of text not (passed short is) = absurd (true≢false (sym is ∙ not))
 row_of text not (logged short is row) = row
 
-pub passed_alone : {base : Option ℕ} {line : Line} (text : List ℕ) → is_passed (strip_carriage_return text) ≡ true → Tells base line text → Tick ⟼ Acted Idle ≡ line
+pub passed_alone : {base : Option ℕ} {line : Line} (text : List ℕ) → is_passed (strip_carriage_return text) ≡ true → IsLineOf base line text → Tick ⟼ Acted Idle ≡ line
 passed_alone text is (passed short also) = refl
 passed_alone text is (logged short not row) = absurd (true≢false (sym is ∙ not))
 

@@ -11,7 +11,7 @@ use Rattle.std.proofs.lemmas.List.{drop_more, map-append, take_rest}
 use Rattle.std.proofs.lemmas.List.Elements.{All-cons}
 use Rattle.dvg_log.specs.Log.{Line, Log}
 use Rattle.dvg_read.specs.Texts.{IsHex, is_passed, parts}
-use Rattle.dvg_logs.specs.LogLines.{LogRow, Tells, logged, small}
+use Rattle.dvg_logs.specs.LogLines.{IsLineOf, LogRow, logged, small}
 use Rattle.dvg_logs.specs.LogLineTells.{AreNumbers, AreWritten, BeginsWithNumbers}
 use Rattle.dvg_logs.specs.declared.log_reading.JudgedLines.{JudgedLines}
 use Rattle.dvg_logs.specs.LogReading.{HasJudged, HeadLine, IsRead, TakesLine, TakesLines}
@@ -177,7 +177,7 @@ fetched_head {a} {n} begins =
 
 module _ {J V : Type 0} {Stands : J → Log → Type 0} {Passes : List V → Log → Type 0} where
   pub line_taken : {Holds : Option ℕ → Type 0} {old new : JudgedLines J} {logged : Line} {text rest : List ℕ} → HeadLine Holds logged text rest → ((base : Option ℕ) → old.base ≡ base → Holds base)
-      → ((base : Option ℕ) (said : List V) (before : List (List ℕ)) (line : List ℕ) → HasJudged base Stands (Passes said) old before → Tells base logged line → HasJudged base Stands (Passes said) new (before ++ line ∷ [])) → TakesLine Stands Passes old new text rest
+      → ((base : Option ℕ) (said : List V) (before : List (List ℕ)) (line : List ℕ) → HasJudged base Stands (Passes said) old before → IsLineOf base logged line → HasJudged base Stands (Passes said) new (before ++ line ∷ [])) → TakesLine Stands Passes old new text rest
   line_taken head holds takes = record {
     line = head.line;
     split = head.split;

@@ -7,7 +7,7 @@ use Rattle.dvg_read.specs.Texts.{lines}
 use Rattle.dvg_print.specs.declared.moment_verdict.MomentVerdict.{MomentVerdict}
 use Rattle.dvg_logs.specs.AllTears.{AreTears, EndsAll, IsTear, of_all}
 use Rattle.dvg_logs.specs.LogLaws.{OneAllVerdict}
-use Rattle.dvg_logs.specs.LogLines.{IsLogOf, Tells}
+use Rattle.dvg_logs.specs.LogLines.{IsLineOf, IsLogOf}
 use Rattle.dvg_logs.specs.LogTexts.{IsFoundAt}
 use Rattle.dvg_logs.specs.MomentLogs.{AreDecided, Decides}
 use Rattle.dvg_logs.proofs.OneMoment.{decides_once, ends_once, unsound}
@@ -66,7 +66,7 @@ found_once base texts n m tears runs one other are too last end a b =
     let line = same_lines b.before a.before b.text a.text b.after a.after b.cut a.cut at in
     let before = same_fronts b.before a.before b.text a.text b.after a.after b.cut a.cut at in
     let log = log_once _ b.log a.log a.before (subst (IsLogOf base b.log) before b.fine.tells) a.fine.tells in
-    let said = tells_once b.line a.line a.text (subst (Tells base b.line) line b.tells) a.tells in (
+    let said = tells_once b.line a.line a.text (subst (IsLineOf base b.line) line b.tells) a.tells in (
       decided_once tears runs a.log a.fine.holds (subst (AreDecided runs) log b.fine.holds),
       decides_once one other a.line a.log a.finds (subst (λ line. Decides other line a.log) said (subst (Decides other b.line) log b.finds)),
     )

@@ -18,7 +18,7 @@ use Rattle.dvg_read.specs.declared.fault.TextFault.TheVariants.{Syntax, TooLong}
 use Rattle.dvg_print.specs.declared.log_verdict.LogFinding.TheVariants.{Torn}
 use Rattle.dvg_print.specs.declared.log_verdict.LogVerdict.{LogVerdict}
 use Rattle.dvg_read.proofs.Zips.{zip_same}
-use Rattle.dvg_logs.specs.LogLines.{IsLogOf, IsWrittenAt, LogRow, Tells, started, fetched, low, wrote, halted, reset, passed, logged}
+use Rattle.dvg_logs.specs.LogLines.{IsLogOf, IsWrittenAt, LogRow, IsLineOf, started, fetched, low, wrote, halted, reset, passed, logged}
 use Rattle.dvg_logs.specs.declared.log_reading.LogStop.{LogStop}
 use Rattle.dvg_logs.specs.declared.log_reading.LogStop.TheVariants as stop
 use Rattle.dvg_logs.specs.LogLaws.{IsJudged}
@@ -56,14 +56,14 @@ back {base} (wrote ram h k) = rw (written_back base _ h, k.value) refl
 row_once : {base : Option ℕ} {line other : Line} {ps : List (List ℕ)} → LogRow base line ps → LogRow base other ps → line ≡ other
 row_once p q = sym (back p) ∙ back q
 
-pub tells_once : {base : Option ℕ} (line other : Line) (text : List ℕ) → Tells base line text → Tells base other text → line ≡ other
+pub tells_once : {base : Option ℕ} (line other : Line) (text : List ℕ) → IsLineOf base line text → IsLineOf base other text → line ≡ other
 tells_once line other text (passed short is) also = passed_alone text is also
 tells_once line other text (logged short not row) also = row_once row (row_of text not also)
 
 -- lines tell one log at most
 pub log_once : (base : Option ℕ) (log other : Log) (texts : List (List ℕ)) → IsLogOf base log texts → IsLogOf base other texts → log ≡ other
 log_once base log other texts one two =
-    sym (reverse-reverse log) ∙ (ap reverse (zip_same (Tells base) tells_once (reverse log) (reverse other) texts one two) ∙ reverse-reverse other)
+    sym (reverse-reverse log) ∙ (ap reverse (zip_same (IsLineOf base) tells_once (reverse log) (reverse other) texts one two) ∙ reverse-reverse other)
 
 -- ---- the lines before a line, and what they tell
 
@@ -74,7 +74,7 @@ record Front (base : Option ℕ) (log : Log) (before : List (List ℕ)) (text : 
   pub older : Log
   pub split : log ≡ later ++ line ∷ older
   pub tells_older : IsLogOf base older before
-  pub tells : Tells base line text
+  pub tells : IsLineOf base line text
 
 -- the same of what lines tell, the oldest first
 record Cut (base : Option ℕ) (all : List Line) (before : List (List ℕ)) (text : List ℕ) : Type 0 where
@@ -82,10 +82,10 @@ record Cut (base : Option ℕ) (all : List Line) (before : List (List ℕ)) (tex
   pub line : Line
   pub back : List Line
   pub split : all ≡ front ++ line ∷ back
-  pub tells_front : AllZip (Tells base) front before
-  pub tells : Tells base line text
+  pub tells_front : AllZip (IsLineOf base) front before
+  pub tells : IsLineOf base line text
 
-cut_of : {base : Option ℕ} (all : List Line) (before : List (List ℕ)) (text : List ℕ) (after : List (List ℕ)) → AllZip (Tells base) all (before ++ text ∷ after) → Cut base all before text
+cut_of : {base : Option ℕ} (all : List Line) (before : List (List ℕ)) (text : List ℕ) (after : List (List ℕ)) → AllZip (IsLineOf base) all (before ++ text ∷ after) → Cut base all before text
 cut_of [] [] text after zip = absurd zip
 cut_of [] (t ∷ before) text after zip = absurd zip
 cut_of (line ∷ all) [] text after zip = record { front = []; line = line; back = all; split = refl; tells_front = tt; tells = zip.0 }
@@ -103,7 +103,7 @@ front_of {base = base} log before text after log_of =
       line = cut.line;
       older = reverse cut.front;
       split = sym (reverse-reverse log) ∙ (ap reverse cut.split ∙ (turned ∙ append_assoc (reverse cut.back) (cut.line ∷ []) (reverse cut.front)));
-      tells_older = subst (λ ls. AllZip (Tells base) ls before) (sym (reverse-reverse cut.front)) cut.tells_front;
+      tells_older = subst (λ ls. AllZip (IsLineOf base) ls before) (sym (reverse-reverse cut.front)) cut.tells_front;
       tells = cut.tells;
     }
 
@@ -130,7 +130,7 @@ pub record StopsAt (base : Option ℕ) (P : Log → Happening → Shown → Type
   pub at : length before ≡ k
   pub log : Log
   pub fine : IsLogSo base (Throughout P) log before
-  pub stops : (logged : Line) → Tells base logged line → ¬ Of P log logged
+  pub stops : (logged : Line) → IsLineOf base logged line → ¬ Of P log logged
 
 module _ {base : Option ℕ} (P : Log → Happening → Shown → Type 0) where
   -- no line among those of which it holds stops a text
@@ -196,7 +196,7 @@ module _ {V : Type 0} (base : Option ℕ) (P : Log → Happening → Shown → T
   no_fault texts said (Some m) n found at_fault =
       let at = one_stop P (found_stops found) (syntax_stops P at_fault) in
       let line = same_lines found.before at_fault.before found.text at_fault.line found.after at_fault.after found.cut at_fault.cut at in
-      at_fault.wrong found.line (subst (Tells base found.line) line found.tells)
+      at_fault.wrong found.line (subst (IsLineOf base found.line) line found.tells)
 
   module _ (finds_once : (one other : V) (line : Line) (log : Log) → Finds one line log → Finds other line log → other ≡ one)
       (ends_once : (one other : V) (log : Log) → Ends one log → Ends other log → other ≡ one) where
@@ -206,7 +206,7 @@ module _ {V : Type 0} (base : Option ℕ) (P : Log → Happening → Shown → T
         let line = same_lines b.before a.before b.text a.text b.after a.after b.cut a.cut at in
         let before = same_fronts b.before a.before b.text a.text b.after a.after b.cut a.cut at in
         let log = log_once _ b.log a.log a.before (subst (IsLogOf base b.log) before b.fine.tells) a.fine.tells in
-        let said = tells_once b.line a.line a.text (subst (Tells base b.line) line b.tells) a.tells in
+        let said = tells_once b.line a.line a.text (subst (IsLineOf base b.line) line b.tells) a.tells in
         finds_once one other a.line a.log a.finds (subst (λ line. Finds other line a.log) said (subst (Finds other b.line) log b.finds))
 
     -- one thing is

@@ -4,10 +4,10 @@ use Rattle.dvg_log.specs.Log.{Log}
 use Rattle.dvg_logs.specs.declared.log_reading.LogReading.{LogReading}
 use Rattle.dvg_logs.specs.declared.log_reading.LogStop.{LogStop}
 use Rattle.dvg_logs.specs.declared.log_reading.LogStop.TheVariants.{Found, Syntax, TooLong}
-use Rattle.dvg_logs.specs.LogReading.{GoesOn, HasRead, IsOpen, IsRead, JudgesOn, ReadsOn, place_of}
+use Rattle.dvg_logs.specs.LogReading.{HasRead, IfDecided, IsOpen, IsRead, JudgesOn, ReadsOn, place_of}
 use Rattle.dvg_logs.proofs.LogReads.{line_read}
 
-pub on_weaker : {V : Type 0} {P Q : V → Type 0} (stop : LogStop V) → ((one : V) → P one → Q one) → GoesOn stop P → GoesOn stop Q
+pub on_weaker : {V : Type 0} {P Q : V → Type 0} (stop : LogStop V) → ((one : V) → P one → Q one) → IfDecided stop P → IfDecided stop Q
 on_weaker (Found n one) f on = f one on
 on_weaker (Syntax n) f on = tt
 on_weaker TooLong f on = tt

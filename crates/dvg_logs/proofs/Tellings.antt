@@ -14,12 +14,12 @@ use Rattle.dvg_io.specs.Watching.{BeginsToWrite}
 use Rattle.dvg_io.proofs.KnownBytesChain.{Appends-trans}
 use Rattle.dvg_io.proofs.WrittenSoFar.{second_begun}
 use Rattle.dvg_logs.specs.AllTears.{AllTakes, AllTears, AreSaid, AreTears, EndsAll, IsTear, JudgesAll, TellsAs, of_all, texts_of}
-use Rattle.dvg_logs.specs.LogReading.{GoesOn, HasJudged, HasRead, StopsAt, number_of}
+use Rattle.dvg_logs.specs.LogReading.{HasJudged, HasRead, IfDecided, StopsAt, number_of}
 use Rattle.dvg_logs.specs.LogTexts.{IsFoundAt, IsWhole}
 use Rattle.dvg_logs.specs.MomentLines.{StandsSo}
 use Rattle.dvg_logs.specs.MomentLogs.{AreDecided, Decides, Ends}
 use Rattle.dvg_logs.specs.Tears.{TakesUpTo}
-use Rattle.dvg_logs.specs.Telling.{EndsSo, EndsWhole, HasTold, IsTold, TellsLast, TellsTear, failed_by}
+use Rattle.dvg_logs.specs.Telling.{EndsSo, EndsWhole, HasTold, ListsTears, TellsLast, TellsTear, failed_by}
 use Rattle.dvg_logs.specs.declared.log_reading.JudgedLines.{JudgedLines}
 use Rattle.dvg_logs.specs.declared.log_reading.LogReading.{LogReading}
 use Rattle.dvg_logs.specs.declared.moment_lines.MomentLines.{MomentLines}
@@ -58,8 +58,8 @@ count_fits base said judged texts fine =
     omega (arith, decided_few said fine.log fine.fine.holds, log_length base fine.log texts fine.fine.tells, fine.count, fine.fits)
 
 -- a torn run more is told
-pub told_more : {H G : List MomentVerdict → Type 0} (torn next : ℕ) (one : MomentVerdict) (old now new : Option (List ℕ)) (told : IsTold old now H torn) → IsTear one → Appends now new (moment_verdict_text one)
-    → G (one ∷ told.tears) → length (one ∷ told.tears) < 2 ^ 64 → next ≡ (torn + 1) % 2 ^ 64 → IsTold old new G next
+pub told_more : {H G : List MomentVerdict → Type 0} (torn next : ℕ) (one : MomentVerdict) (old now new : Option (List ℕ)) (told : ListsTears old now H torn) → IsTear one → Appends now new (moment_verdict_text one)
+    → G (one ∷ told.tears) → length (one ∷ told.tears) < 2 ^ 64 → next ≡ (torn + 1) % 2 ^ 64 → ListsTears old new G next
 told_more torn next one old now new told tear wrote holds fits is = record {
   tears = one ∷ told.tears;
   are = (tear, told.are);
@@ -69,7 +69,7 @@ told_more torn next one old now new told tear wrote holds fits is = record {
 }
 
 -- what holds of the same runs
-pub told_as : {H G : List MomentVerdict → Type 0} (torn : ℕ) (old now : Option (List ℕ)) (told : IsTold old now H torn) → G told.tears → IsTold old now G torn
+pub told_as : {H G : List MomentVerdict → Type 0} (torn : ℕ) (old now : Option (List ℕ)) (told : ListsTears old now H torn) → G told.tears → ListsTears old now G torn
 told_as torn old now told holds = record { tears = told.tears; are = told.are; holds = holds; torn_is = told.torn_is; wrote = told.wrote }
 
 -- where the reading goes on, a torn run is told
@@ -79,7 +79,7 @@ pub record Tear (P : MomentVerdict → Type 0) (old new : Option (List ℕ)) : T
   pub wrote : Appends old new (moment_verdict_text one)
   pub holds : P one
 
-pub tear_of : {P : MomentVerdict → Type 0} (stop : LogStop MomentVerdict) (old new : Option (List ℕ)) → TellsTear stop old new → GoesOn stop P → Tear P old new
+pub tear_of : {P : MomentVerdict → Type 0} (stop : LogStop MomentVerdict) (old new : Option (List ℕ)) → TellsTear stop old new → IfDecided stop P → Tear P old new
 tear_of (Found n one) old new tells on = record { one = one; tear = tells.0; wrote = tells.1; holds = on }
 tear_of (Syntax n) old new tells on = absurd tells
 tear_of TooLong old new tells on = absurd tells

@@ -35,12 +35,12 @@ small = map to_ascii_lowercase
 
 -- a line of at most 64 bytes says what its parts say, without a CR at its end and in small letters; or it is passed
 -- over, which counts as an idle tick
-pub data Tells (base : Option ℕ) : Line → List ℕ → Type 0 where
+pub data IsLineOf (base : Option ℕ) : Line → List ℕ → Type 0 where
   passed : {text : List ℕ} → length text ≤ 64 → is_passed (strip_carriage_return text) ≡ true
-      → Tells base (Tick ⟼ Acted Idle) text
+      → IsLineOf base (Tick ⟼ Acted Idle) text
   logged : {line : Line} {text : List ℕ} → length text ≤ 64 → is_passed (strip_carriage_return text) ≡ false
-      → LogRow base line (parts (small (strip_carriage_return text))) → Tells base line text
+      → LogRow base line (parts (small (strip_carriage_return text))) → IsLineOf base line text
 
 -- these lines of text give this log, a line each
 abbrev pub IsLogOf : (base : Option ℕ) → Log → List (List ℕ) → Type 0
-IsLogOf base log texts = AllZip (Tells base) (reverse log) texts
+IsLogOf base log texts = AllZip (IsLineOf base) (reverse log) texts

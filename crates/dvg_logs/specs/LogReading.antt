@@ -6,7 +6,7 @@ use Rattle.dvg_logs.specs.declared.log_reading.JudgedLines.{JudgedLines}
 use Rattle.dvg_logs.specs.declared.log_reading.LogReading.{LogReading}
 use Rattle.dvg_logs.specs.declared.log_reading.LogStop.{LogStop}
 use Rattle.dvg_logs.specs.declared.log_reading.LogStop.TheVariants.{Found, Syntax, TooLong}
-use Rattle.dvg_logs.specs.LogLines.{Tells}
+use Rattle.dvg_logs.specs.LogLines.{IsLineOf}
 use Rattle.dvg_logs.specs.LogTexts.{IsFoundAt, IsLogSo, MeetsSyntax, MeetsTooMany}
 use Rattle.dvg_logs.specs.Tears.{ended}
 
@@ -62,7 +62,7 @@ pub record HeadLine (Holds : Option ℕ → Type 0) (logged : Line) (text rest :
   pub line : List ℕ
   pub split : text ≡ line ++ 10 ∷ rest
   pub unended : IsOpen line
-  pub tells : (base : Option ℕ) → Holds base → Tells base logged line
+  pub tells : (base : Option ℕ) → Holds base → IsLineOf base logged line
 
 -- a line at the head of a text was judged, which doesn't decide, and this is the rest
 pub record TakesLine {J V : Type 0} (Stands : J → Log → Type 0) (Passes : List V → Log → Type 0)
@@ -84,10 +84,10 @@ pub record TakesLines {J V : Type 0} (Stands : J → Log → Type 0) (Passes : L
   pub some : 0 < length front → old.count < new.count
 
 -- where the reading stopped as a line decides, it may go on: this is so
-abbrev pub GoesOn : {V : Type 0} → LogStop V → (V → Type 0) → Type 0
-GoesOn (Found n one) Holds = Holds one
-GoesOn (Syntax n) Holds = Unit {0}
-GoesOn TooLong Holds = Unit {0}
+abbrev pub IfDecided : {V : Type 0} → LogStop V → (V → Type 0) → Type 0
+IfDecided (Found n one) Holds = Holds one
+IfDecided (Syntax n) Holds = Unit {0}
+IfDecided TooLong Holds = Unit {0}
 
 -- a line decided, of which this was said, and was judged, too
 pub record JudgesOn {J V : Type 0} (Stands : J → Log → Type 0) (Passes : List V → Log → Type 0)

@@ -11,7 +11,7 @@ use Rattle.dvg_read.specs.declared.fault.TextFault.TheVariants.{TooLong, Syntax}
 use Rattle.dvg_print.specs.declared.log_verdict.LogFinding.TheVariants.{Torn}
 use Rattle.dvg_print.specs.declared.log_verdict.LogVerdict.{LogVerdict}
 use Rattle.dvg_logs.specs.LogCounts.{counts_of, said_of}
-use Rattle.dvg_logs.specs.LogLines.{IsLogOf, Tells}
+use Rattle.dvg_logs.specs.LogLines.{IsLineOf, IsLogOf}
 
 -- the lines give this log, of which this holds
 pub record IsLogSo (base : Option ℕ) (Holds : Log → Type 0) (log : Log) (texts : List (List ℕ)) : Type 0 where
@@ -27,7 +27,7 @@ pub record MeetsSyntax (base : Option ℕ) (Holds : Log → Type 0) (texts : Lis
   pub number : n ≡ length before + 1
   pub log : Log
   pub fine : IsLogSo base Holds log before
-  pub wrong : (logged : Line) → ¬ Tells base logged line
+  pub wrong : (logged : Line) → ¬ IsLineOf base logged line
 
 -- there are more than 2 ^ 64 - 1 lines, none of the first 2 ^ 64 - 1 is at fault, and of their log this holds
 pub record MeetsTooMany (base : Option ℕ) (Holds : Log → Type 0) (texts : List (List ℕ)) : Type 0 where
@@ -55,7 +55,7 @@ pub record IsFoundAt {V : Type 0} (base : Option ℕ) (Passes : Log → Type 0) 
   pub log : Log
   pub fine : IsLogSo base Passes log before
   pub line : Line
-  pub tells : Tells base line text
+  pub tells : IsLineOf base line text
   pub finds : Finds verdict line log
 
 -- this is said of lines: where it is found at line n, or by their log, as nothing is found in it

@@ -17,7 +17,7 @@ use Rattle.dvg_logs.specs.declared.log_reading.LogStop.TheVariants.{Found, Synta
 use Rattle.dvg_logs.specs.declared.tears_all.Telling.{Telling}
 
 -- these torn runs, of which this holds, were counted and told
-pub record IsTold (old now : Option (List ℕ)) (Holds : List MomentVerdict → Type 0) (torn : ℕ) : Type 0 where
+pub record ListsTears (old now : Option (List ℕ)) (Holds : List MomentVerdict → Type 0) (torn : ℕ) : Type 0 where
   pub tears : List MomentVerdict
   pub are : AreTears tears
   pub holds : Holds tears
@@ -27,12 +27,12 @@ pub record IsTold (old now : Option (List ℕ)) (Holds : List MomentVerdict → 
 -- this text was read, and its torn runs were told
 abbrev pub HasTold : (base : Option ℕ) → (old now : Option (List ℕ)) → Telling → (text : List ℕ) → Type 0
 HasTold base old now telling text =
-    IsTold old now (λ tears. HasRead base StandsSo (AreDecided tears) telling.reading text) telling.torn
+    ListsTears old now (λ tears. HasRead base StandsSo (AreDecided tears) telling.reading text) telling.torn
 
 -- the same, and the text has ended
 abbrev pub HasToldAll : (base : Option ℕ) → (old now : Option (List ℕ)) → Telling → (text : List ℕ) → Type 0
 HasToldAll base old now telling text =
-    IsTold old now (λ tears. HasJudged base StandsSo (AreDecided tears) telling.reading.judged (lines text))
+    ListsTears old now (λ tears. HasJudged base StandsSo (AreDecided tears) telling.reading.judged (lines text))
     telling.torn
 
 -- a front of a piece was read, its torn runs were told, and this is the rest

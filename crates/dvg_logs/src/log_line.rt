@@ -4,7 +4,7 @@ ghost use Rattle.std.specs.Prelude.{IsSomeAnd, Some};
 ghost use Rattle.std.specs.Str.Lines.{strip_carriage_return};
 ghost use Rattle.dvg_read.specs.Texts.{parts};
 ghost use Rattle.dvg_log.specs.Log.{Line};
-ghost use Rattle.dvg_logs.specs.LogLines.{LogRow, Tells, small};
+ghost use Rattle.dvg_logs.specs.LogLines.{IsLineOf, LogRow, small};
 ghost use Rattle.dvg_logs.specs.LogLineTells.{AreNumbers, AreWritten, line_of};
 
 use arrayvec::ArrayVec;
@@ -48,8 +48,8 @@ pub enum LogLine {
 /// With a `base` the address after `wrote` is one of the processor, in four digits. The RAM lies
 /// there from the base on.
 pub fn read_log_line(line: &[u8], base: Option<u16>) -> Option<LogLine>
-    ensures found { IfSome result (λ logged. Tells base (line_of logged) line.now) }
-    ensures only { (logged : Line) → Tells base logged line.now
+    ensures found { IfSome result (λ logged. IsLineOf base (line_of logged) line.now) }
+    ensures only { (logged : Line) → IsLineOf base logged line.now
         → IsSomeAnd result (λ found. line_of found ≡ logged) }
 {
     if line.len() > MOST_LINE_BYTES {

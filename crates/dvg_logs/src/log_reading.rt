@@ -4,10 +4,10 @@ ghost use Rattle.std.specs.Prelude.{◌≡◌, ◌+◌, ◌-◌, ◌^◌, ◌<�
 ghost use Rattle.std.specs.Prelude.{IfErr, IsTrue, OnOk, length};
 ghost use Rattle.dvg_log.specs.Log.{Line, Log};
 ghost use Rattle.dvg_read.specs.Texts.{lines};
-ghost use Rattle.dvg_logs.specs.LogLines.{Tells};
+ghost use Rattle.dvg_logs.specs.LogLines.{IsLineOf};
 ghost use Rattle.dvg_logs.specs.LogTexts.{IsWhole};
 ghost use Rattle.dvg_logs.specs.LogLineTells.{line_of};
-ghost use Rattle.dvg_logs.specs.LogReading.{GoesOn, HasJudged, HasRead, IsOpen, JudgesOn};
+ghost use Rattle.dvg_logs.specs.LogReading.{HasJudged, HasRead, IfDecided, IsOpen, JudgesOn};
 ghost use Rattle.dvg_logs.specs.LogReading.{ReadsOn, StopsAt, number_of, place_of};
 
 use crate::line_judge::LineJudge;
@@ -50,9 +50,9 @@ impl<J: LineJudge> JudgedLines<J> {
         ensures stop { (base : Option ℕ) (said : List J.Verdict) (before : List (List ℕ))
             (line : List ℕ) (after : List (List ℕ))
             → HasJudged base J.Stands (J.Passes said) self.now before
-            → ((logged : Line) → ¬ Tells base logged line)
+            → ((logged : Line) → ¬ IsLineOf base logged line)
             → StopsAt base (J.Passes said) J.Finds result (before ++ line ∷ after) }
-        ensures on { GoesOn result (λ one. ⊥) }
+        ensures on { IfDecided result (λ one. ⊥) }
         ensures next { number_of result ≡ self.now.count + 1 }
     {
         if self.count == usize::MAX {
@@ -73,7 +73,7 @@ impl<J: LineJudge> JudgedLines<J> {
             → HasJudged base J.Stands (J.Passes said) self.old before
             → StopsAt base (J.Passes said) J.Finds stop (before ++ line.now ∷ after)) }
         ensures on { IfErr result (λ stop.
-            GoesOn stop (JudgesOn J.Stands J.Passes self.old self.new line.now)) }
+            IfDecided stop (JudgesOn J.Stands J.Passes self.old self.new line.now)) }
         ensures next { IfErr result (λ stop. number_of stop ≡ self.old.count + 1) }
         ensures count { OnOk result (self.new.count ≡ self.old.count + 1) }
     {
@@ -101,7 +101,7 @@ impl<J: LineJudge> JudgedLines<J> {
         ensures taken { IsTrue result → (base : Option ℕ) (said : List J.Verdict)
             (before : List (List ℕ)) (line : List ℕ)
             → HasJudged base J.Stands (J.Passes said) self.old before
-            → Tells base (line_of logged) line
+            → IsLineOf base (line_of logged) line
             → HasJudged base J.Stands (J.Passes said) self.new (before ++ line ∷ []) }
         ensures count { IsTrue result → self.new.count ≡ self.old.count + 1 }
         ensures found { ¬ IsTrue result → self.new ≡ self.old }
@@ -151,7 +151,7 @@ impl<J: LineJudge> LogReading<J> {
             (text more : List ℕ)
             → HasRead base J.Stands (J.Passes said) self.old text
             → StopsAt base (J.Passes said) J.Finds stop (lines (text ++ (bytes.now ++ more)))) }
-        ensures on { IfErr result (λ stop. GoesOn stop (λ one. ⊥)) }
+        ensures on { IfErr result (λ stop. IfDecided stop (λ one. ⊥)) }
         ensures next { IfErr result (λ stop. number_of stop ≡ self.old.judged.count + 1) }
         ensures bytes { OnOk result (self.new.unfinished.items
             ≡ self.old.unfinished.items ++ bytes.now) }
@@ -175,7 +175,7 @@ impl<J: LineJudge> LogReading<J> {
             → HasRead base J.Stands (J.Passes said) self.old text
             → StopsAt base (J.Passes said) J.Finds stop
             (lines (text ++ (bytes.now ++ 10 ∷ more)))) }
-        ensures on { IfErr result (λ stop. GoesOn stop
+        ensures on { IfErr result (λ stop. IfDecided stop
             (ReadsOn J.Stands J.Passes self.old self.new (bytes.now ++ 10 ∷ []) [])) }
         ensures next { IfErr result (λ stop. number_of stop ≡ self.old.judged.count + 1) }
         ensures count { OnOk result (self.new.judged.count ≡ self.old.judged.count + 1) }
@@ -206,7 +206,7 @@ impl<J: LineJudge> LogReading<J> {
             → HasRead base J.Stands (J.Passes said) self.old text
             → StopsAt base (J.Passes said) J.Finds stopped.stop
             (lines (text ++ (piece.now ++ more)))) }
-        ensures on { IfErr result (λ stopped. GoesOn stopped.stop
+        ensures on { IfErr result (λ stopped. IfDecided stopped.stop
             (ReadsOn J.Stands J.Passes self.old self.new piece.now stopped.rest.now)) }
         ensures later { IfErr result (λ stopped.
             self.old.judged.count < number_of stopped.stop) }
@@ -237,7 +237,7 @@ impl<J: LineJudge> LogReading<J> {
         ensures stop { IfErr result (λ stop. (base : Option ℕ) (said : List J.Verdict)
             (text : List ℕ) → HasRead base J.Stands (J.Passes said) self.old text
             → StopsAt base (J.Passes said) J.Finds stop (lines text)) }
-        ensures on { IfErr result (λ stop. GoesOn stop (λ one.
+        ensures on { IfErr result (λ stop. IfDecided stop (λ one.
             (base : Option ℕ) (said : List J.Verdict) (text : List ℕ)
             → HasRead base J.Stands (J.Passes said) self.old text
             → HasJudged base J.Stands (J.Passes (one ∷ said)) self.new.judged (lines text))) }

@@ -27,7 +27,7 @@ use Rattle.dvg_theorem.specs.Law.{Finishes}
 use Rattle.dvg_theorem.proofs.Bytes.{byte, low_met, word_met, whole_met}
 use Rattle.dvg_theorem.proofs.DrawnHalfSpared.{byte_other}
 use Rattle.dvg_moment.specs.Moment.{stands, waits, Changes, reads, HasRead, HasChanged, StillStands, ReadsThen}
-use Rattle.dvg_moment.specs.Played.{IsPlayed, DrewItsMoment, DrawsTheMoment}
+use Rattle.dvg_moment.specs.Played.{FetchesMemory, DrewItsMoment, DrawsTheMoment}
 use Rattle.dvg_moment.proofs.OfOneMoment.{more_parts}
 use Rattle.dvg_moment.proofs.LinesRead.{some_read, low_reads, high_reads}
 
@@ -137,7 +137,7 @@ cons_parts : {k l : Line} {ks ls : Log} → k ∷ ks ≡ l ∷ ls → (k ≡ l) 
 cons_parts e = (cc, cc)
 
 module _ (R image : List ℕ) (small : IsImage image) where
-  pub are_bytes : (log : Log) → Throughout (IsPlayed R image) log → AreBytes (ram image log)
+  pub are_bytes : (log : Log) → Throughout (FetchesMemory R image) log → AreBytes (ram image log)
   are_bytes [] p = image_bytes image small
   are_bytes ((ResetAll bytes ⟼ Cleared) ∷ log) p = image_bytes bytes p.0
   are_bytes ((ResetAll bytes ⟼ entry) ∷ log) p = absurd p.0
@@ -202,7 +202,7 @@ module _ (R image : List ℕ) (small : IsImage image) where
       let there = subst (λ u. fetched_byte (ram image log) R u false ≡ Some low.0) same t.1 in
       (whole_met (ram image log) R (low_byte log) x w low.0 m low.1 there, inr (subst (λ u. HasRead (2 * u) log) same t.2), inl (some_read (high_reads (waits (waiting log) x) x w)))
 
-  now : (log : Log) → Throughout (IsPlayed R image) log → StillStands (stands image) log → (ws : List (ℕ × ℕ)) → open_run log ≡ Some ws → Now log ws
+  now : (log : Log) → Throughout (FetchesMemory R image) log → StillStands (stands image) log → (ws : List (ℕ × ℕ)) → open_run log ≡ Some ws → Now log ws
   now [] p s ws o = absurd (none-some ws o)
   now ((Strobe ⟼ Started) ∷ log) p s ws o = record { words = subst (AllByRecursion (Word (ram image log) ((Strobe ⟼ Started) ∷ log))) (same_Some _ _ o) tt; low = λ y l e. absurd (none-some (y, l) e) }
   now ((event ⟼ Started) ∷ log) p s ws o = absurd p.0
@@ -226,7 +226,7 @@ module _ (R image : List ℕ) (small : IsImage image) where
   now ((event ⟼ entry) ∷ log) p s ws o = passes log event entry ws (now log p.1 s.1 ws o) (λ a h. inr h) refl refl refl
 
   -- a byte that didn't change is as it was at the moment
-  pub as_then : (part moment : Log) → Throughout (IsPlayed R image) (part ++ moment) → Throughout (ReadsThen (stands image) moment) part → (ws : List (ℕ × ℕ)) → open_run (part ++ moment) ≡ Some ws
+  pub as_then : (part moment : Log) → Throughout (FetchesMemory R image) (part ++ moment) → Throughout (ReadsThen (stands image) moment) part → (ws : List (ℕ × ℕ)) → open_run (part ++ moment) ≡ Some ws
       → (a : ℕ) → ¬ HasChanged (stands image) a part moment → byte image (part ++ moment) a ≡ byte image moment a
   as_then [] moment p r ws o a n = refl
   as_then ((event ⟼ Started) ∷ part) moment p r ws o a n = absurd (r.0.0 refl)
@@ -251,11 +251,11 @@ module _ (R image : List ℕ) (small : IsImage image) where
     low = λ y l e. let k = t.low y l (sym low ∙ e) in (subst (λ h. IsWanted h y) (sym told) k.0, k.1);
   }
 
-  played_moment : (part moment : Log) → Throughout (IsPlayed R image) (part ++ moment) → Throughout (IsPlayed R image) moment
+  played_moment : (part moment : Log) → Throughout (FetchesMemory R image) (part ++ moment) → Throughout (FetchesMemory R image) moment
   played_moment [] moment p = p
   played_moment ((event ⟼ entry) ∷ part) moment p = played_moment part moment p.1
 
-  module _ (part moment : Log) (p : Throughout (IsPlayed R image) (part ++ moment)) (r : Throughout (ReadsThen (stands image) moment) part) (ws : List (ℕ × ℕ)) (o : open_run (part ++ moment) ≡ Some ws) where
+  module _ (part moment : Log) (p : Throughout (FetchesMemory R image) (part ++ moment)) (r : Throughout (ReadsThen (stands image) moment) part) (ws : List (ℕ × ℕ)) (o : open_run (part ++ moment) ≡ Some ws) where
     -- a byte that a line reads, which hasn't changed since
     byte_then : (x : ℕ) (high : Bool) → ¬ HasChanged (stands image) (at x high) part moment → fetched_byte (ram image (part ++ moment)) R x high ≡ fetched_byte (ram image moment) R x high
     byte_then x high n =
@@ -281,7 +281,7 @@ module _ (R image : List ℕ) (small : IsImage image) where
         met_word (ram image (part ++ moment)) (ram image moment) R (low_byte (part ++ moment)) x w low.0 m low.1 (byte_then x true n)
         (subst (λ u. fetched_byte (ram image moment) R u false ≡ Some low.0) same k.1)
 
-  was_then : (part moment : Log) → Throughout (IsPlayed R image) (part ++ moment) → StillStands (stands image) moment → Throughout (ReadsThen (stands image) moment) part → (ws : List (ℕ × ℕ)) → open_run (part ++ moment) ≡ Some ws
+  was_then : (part moment : Log) → Throughout (FetchesMemory R image) (part ++ moment) → StillStands (stands image) moment → Throughout (ReadsThen (stands image) moment) part → (ws : List (ℕ × ℕ)) → open_run (part ++ moment) ≡ Some ws
       → Then (part ++ moment) moment ws
   was_then [] moment p s r ws o = let n = now moment p s ws o in record { words = map_all (λ f t. t.0) ws n.words; low = λ y l e. let k = n.low y l e in (k.0, k.1) }
   was_then ((event ⟼ Started) ∷ part) moment p s r ws o = absurd (r.0.0 refl)
@@ -305,7 +305,7 @@ module _ (R image : List ℕ) (small : IsImage image) where
   was_then ((event ⟼ entry) ∷ part) moment p s r ws o = goes_on (part ++ moment) ((event ⟼ entry) ∷ part ++ moment) moment ws (was_then part moment p.1 s r.1 ws o) refl refl
 
   -- a run whose words are those of a memory is one over this memory
-  run_over : (mem : ℕ → Option ℕ) (log : Log) → Throughout (IsPlayed R image) log → (ws : List (ℕ × ℕ)) → open_run log ≡ Some ws → AllByRecursion (λ f. mem f.0 ≡ Some f.1) ws
+  run_over : (mem : ℕ → Option ℕ) (log : Log) → Throughout (FetchesMemory R image) log → (ws : List (ℕ × ℕ)) → open_run log ≡ Some ws → AllByRecursion (λ f. mem f.0 ≡ Some f.1) ws
       → {run : Newest} → Leaves (history R image log) run → Runs mem (length ws) run.visits run.held
   run_over mem [] p ws o h l = absurd (none-some ws o)
   run_over mem ((Strobe ⟼ Started) ∷ log) p ws o h (starts l) = subst (λ us. Runs mem (length us) [] None) (same_Some _ _ o) begins
@@ -347,7 +347,7 @@ module _ (R image : List ℕ) (small : IsImage image) where
             strokes = ap (λ y. strokes y.first vs) (sym e) ∙ fin.2;
           }
 
-  line_draws : (part moment : Log) (x w : ℕ) (drew : List Stroke) → Throughout (IsPlayed R image) (part ++ moment) → Fits R image (part ++ moment) Fetch (Done x w drew)
+  line_draws : (part moment : Log) (x w : ℕ) (drew : List Stroke) → Throughout (FetchesMemory R image) (part ++ moment) → Fits R image (part ++ moment) Fetch (Done x w drew)
       → StillStands (stands image) moment → Throughout (ReadsThen (stands image) moment) part → ¬ HasChanged (stands image) (2 * x + 1) part moment
       → (ws : List (ℕ × ℕ)) → open_run (part ++ moment) ≡ Some ws
       → (run : Newest) → Leaves (history R image (part ++ moment)) run → Finishes (fetched (ram image moment) R) run.first drew (suc (length ws))
@@ -357,14 +357,14 @@ module _ (R image : List ℕ) (small : IsImage image) where
       ends mem (history R image (part ++ moment)) x w drew (length ws) f.1 run l (run_over mem (part ++ moment) p ws o t.words l)
       (word_then part moment p r ws o x w f.0 f.1.asked n t)
 
-  done_draws : (log : Log) (x w : ℕ) (drew : List Stroke) → Throughout (IsPlayed R image) log → Fits R image log Fetch (Done x w drew) → DrewItsMoment (stands image) R image log Fetch (Done x w drew)
+  done_draws : (log : Log) (x w : ℕ) (drew : List Stroke) → Throughout (FetchesMemory R image) log → Fits R image log Fetch (Done x w drew) → DrewItsMoment (stands image) R image log Fetch (Done x w drew)
   done_draws log x w drew p f ws o since moment m run l = by since m.split m.read_since
     where
       same : (line : Line) (part : Log) → (Fetch ⟼ Done x w drew) ∷ log ≡ line ∷ part ++ moment → Throughout (ReadsThen (stands image) moment) (line ∷ part) → Finishes (fetched (ram image moment) R) run.first drew (suc (length ws))
       same line part e r =
           let d = cons_parts e in
           let r2 : Throughout (ReadsThen (stands image) moment) ((Fetch ⟼ Done x w drew) ∷ part) = subst (λ k. Throughout (ReadsThen (stands image) moment) (k ∷ part)) (sym d.0) r in
-          let P : Log → Type 0 = λ k. Throughout (IsPlayed R image) k in
+          let P : Log → Type 0 = λ k. Throughout (FetchesMemory R image) k in
           let Q : Log → Type 0 = λ k. Fits R image k Fetch (Done x w drew) in
           let O : Log → Type 0 = λ k. open_run k ≡ Some ws in
           let L : Log → Type 0 = λ k. Leaves (history R image k) run in
@@ -377,7 +377,7 @@ module _ (R image : List ℕ) (small : IsImage image) where
           (line_draws [] log x w drew p f s.1 tt (λ c. c) ws o run l)
       by (line ∷ part) e r = same line part e r
 
-  all_draw : (log : Log) → Throughout (IsPlayed R image) log → Throughout (DrewItsMoment (stands image) R image) log
+  all_draw : (log : Log) → Throughout (FetchesMemory R image) log → Throughout (DrewItsMoment (stands image) R image) log
   all_draw [] p = tt
   all_draw ((Fetch ⟼ Done x w drew) ∷ log) p = (done_draws log x w drew p.1 p.0, all_draw log p.1)
   all_draw ((event ⟼ Done x w drew) ∷ log) p = absurd p.0

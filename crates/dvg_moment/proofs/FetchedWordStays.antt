@@ -20,7 +20,7 @@ use Rattle.dvg_theorem.proofs.Later.{shows}
 use Rattle.dvg_theorem.proofs.Shows.{at_zero_fetched, at_zero_open}
 use Rattle.dvg_theorem.proofs.Words.{words_are_whole}
 use Rattle.dvg_moment.specs.Moment.{stands}
-use Rattle.dvg_moment.specs.Played.{IsPlayed, StoodThen}
+use Rattle.dvg_moment.specs.Played.{FetchesMemory, StoodThen}
 use Rattle.dvg_moment.proofs.DrawsTheMoment.{same_word, as_then}
 use Rattle.dvg_moment.proofs.Small.{legal_is_played}
 use Rattle.dvg_moment.proofs.OfOneMoment.{more_parts, Since, since_zero, finished_at}
@@ -59,7 +59,7 @@ module _ (R image : List ℕ) where
         where
           here : (a : ℕ) → a / 2 ≡ x → slice_index (ram image s.moment) a ≡ slice_index (ram image log) a
           here a e =
-              let same = as_then R image (first_image log l) s.since s.moment (subst (Throughout (IsPlayed R image)) s.split (legal_is_played R image log l)) s.after (u ∷ us) (subst (λ k. open_run k ≡ Some (u ∷ us)) s.split o) a
+              let same = as_then R image (first_image log l) s.since s.moment (subst (Throughout (FetchesMemory R image)) s.split (legal_is_played R image log l)) s.after (u ∷ us) (subst (λ k. open_run k ≡ Some (u ∷ us)) s.split o) a
               (λ c. (s.apart a c).0 (subst (IsInHalf half) (sym e) inside)) in
               sym same ∙ ap (λ k. byte image k a) (sym s.split)
 

@@ -31,7 +31,7 @@ use Rattle.dvg_log.specs.Log.{◌⟼◌, Log, life, free_half}
 use Rattle.dvg_log.specs.Legal.{Always, IsLegal}
 use Rattle.dvg_theorem.proofs.DraftInMemory.{at_size}
 use Rattle.dvg_theorem.proofs.Writes.{written}
-use Rattle.dvg_moment.specs.Played.{IsPlayed}
+use Rattle.dvg_moment.specs.Played.{FetchesMemory}
 
 -- the words of a draft
 
@@ -147,7 +147,7 @@ module _ (R image : List ℕ) where
       let p = place_before (Did (Wrote a b)) (life image log) q.0 q.1 in
       byte_small p.0 q.0 a b p.2 (place_small log l p.0 p.1)
 
-  line_is_played : (log : Log) (event : Happening) (entry : Shown) → IsLegal R image ((event ⟼ entry) ∷ log) → IsPlayed R image log event entry
+  line_is_played : (log : Log) (event : Happening) (entry : Shown) → IsLegal R image ((event ⟼ entry) ∷ log) → FetchesMemory R image log event entry
   line_is_played log Fetch entry l = l.0
   line_is_played log Tick (Acted (Wrote a b)) l = written_small log a b l.2 l.0.0
   line_is_played log Tick (Acted action) l = tt
@@ -164,6 +164,6 @@ module _ (R image : List ℕ) where
   line_is_played log (ResetAll bytes) Cleared l = l.1
   line_is_played log event entry l = absurd l.0
 
-pub legal_is_played : Always IsPlayed
+pub legal_is_played : Always FetchesMemory
 legal_is_played R image [] l = tt
 legal_is_played R image ((event ⟼ entry) ∷ log) l = (line_is_played R image log event entry l, legal_is_played R image log l.2)

@@ -14,7 +14,7 @@ use Rattle.dvg_log.specs.declared.event.Event.TheVariants.{Tick, Strobe, Fetch}
 use Rattle.dvg_log.specs.declared.entry.Entry.TheVariants.{Acted, Started, Low, Fetched, Done}
 use Rattle.dvg_log.specs.Log.{Line, ◌⟼◌, Log, Throughout, open_run}
 use Rattle.dvg_moment.specs.Moment.{Known, stands, HasChanged, StillStands, IsMoment, OfOneMoment}
-use Rattle.dvg_moment.specs.Played.{IsPlayed, SomeRunIsTorn}
+use Rattle.dvg_moment.specs.Played.{FetchesMemory, SomeRunIsTorn}
 use Rattle.dvg_moment.proofs.Latest.{moment_before, is_latest, past_on, past_torn}
 use Rattle.dvg_moment.proofs.LinesRead.{some_read, low_at, word_at}
 use Rattle.dvg_moment.proofs.Truth.{is_moment}
@@ -95,7 +95,7 @@ leaves3 = takes leaves2 refl (one spells_halt)
 
 module _ (R : List ℕ) where
   abbrev AllPlayed : Log → Type 0
-  AllPlayed log = Throughout (IsPlayed R zeros) log
+  AllPlayed log = Throughout (FetchesMemory R zeros) log
 
   first_played : AllPlayed first_read
   first_played = (

@@ -18,7 +18,7 @@ use Rattle.dvg_log.specs.Legal.{IsWanted}
 use Rattle.dvg_theorem.proofs.Bytes.{byte, low_met, word_met}
 use Rattle.dvg_theorem.proofs.DrawnHalfSpared.{byte_other, byte_here}
 use Rattle.dvg_moment.specs.Moment.{stands, told, waits, word_reads, WaitsAsAnother, Contradicts, Changes, HasChanged, StillStands, ReadsThen, IsMoment}
-use Rattle.dvg_moment.specs.Played.{IsPlayed, DrewItsMoment, DrawsTheMoment, NeverContradicts, ErrsUntold}
+use Rattle.dvg_moment.specs.Played.{FetchesMemory, DrewItsMoment, DrawsTheMoment, NeverContradicts, ErrsUntold}
 use Rattle.dvg_moment.proofs.DrawsTheMoment.{AreBytes, are_bytes, wanted_same, low_part, high_part, draws_the_moment}
 
 -- bytes that are fetched are small
@@ -67,7 +67,7 @@ module _ (R image : List ℕ) (small : IsImage image) where
   abbrev Waiting : Log → ℕ × ℕ → Type 0
   Waiting log low = IsWanted (history R image log) low.0 × (low.1 < 256)
 
-  waiting_wanted : (log : Log) → Throughout (IsPlayed R image) log → (low : ℕ × ℕ) → waiting log ≡ Some low → Waiting log low
+  waiting_wanted : (log : Log) → Throughout (FetchesMemory R image) log → (low : ℕ × ℕ) → waiting log ≡ Some low → Waiting log low
   waiting_wanted [] p low e = absurd (none-some low e)
   waiting_wanted ((event ⟼ Started) ∷ log) p low e = absurd (none-some low e)
   waiting_wanted ((ResetGen ⟼ entry) ∷ log) p low e = absurd (none-some low e)
@@ -111,7 +111,7 @@ module _ (R image : List ℕ) (small : IsImage image) where
     | inr t ↦ old v (rw t.0 at e)
   ]
 
-  word_true : (log : Log) (x w a : ℕ) → a < 0x800 → Throughout (IsPlayed R image) log → meets R image log x ≡ Whole (Some w) → IsWanted (history R image log) x
+  word_true : (log : Log) (x w a : ℕ) → a < 0x800 → Throughout (FetchesMemory R image) log → meets R image log x ≡ Whole (Some w) → IsWanted (history R image log) x
       → IsTrueOf (told log a) log a → IsTrueOf (option_or (word_reads (waits (waiting log) x) x w a) (told log a)) log a
   word_true log x w a l p m f old v e =
       let low = word_met (ram image log) R (low_byte log) x w m in
@@ -134,7 +134,7 @@ module _ (R image : List ℕ) (small : IsImage image) where
         | inr t ↦ old v (sym (last (a == 2 * x)) ∙ rw t.0 at e)
       ]
 
-  told_true : (log : Log) → Throughout (IsPlayed R image) log → (a : ℕ) → a < 0x800 → IsTrueOf (told log a) log a
+  told_true : (log : Log) → Throughout (FetchesMemory R image) log → (a : ℕ) → a < 0x800 → IsTrueOf (told log a) log a
   told_true [] p a l v e = absurd (none-some v e)
   told_true ((ResetAll bytes ⟼ entry) ∷ log) p a l v e = absurd (none-some v e)
   told_true ((Tick ⟼ Acted (Wrote b w)) ∷ log) p a l v e = wrote_true log b w a v l (are_bytes R image small log p.1) (told_true log p.1 a l) e
@@ -148,13 +148,13 @@ module _ (R image : List ℕ) (small : IsImage image) where
   told_true ((event ⟼ entry) ∷ log) p a l v e = told_true log p.1 a l v e
 
   -- of the word that a fetch meets the low byte waits
-  waiting_met : (log : Log) (x w : ℕ) → Throughout (IsPlayed R image) log → meets R image log x ≡ Whole (Some w) → (low : ℕ × ℕ) → waiting log ≡ Some low
+  waiting_met : (log : Log) (x w : ℕ) → Throughout (FetchesMemory R image) log → meets R image log x ≡ Whole (Some w) → (low : ℕ × ℕ) → waiting log ≡ Some low
       → (h : ℕ) × (fetched_byte (ram image log) R x true ≡ Some h) × (w ≡ low.1 + 256 * h) × (low.1 < 256)
   waiting_met log x w p m low e =
       let parts = word_parts (ram image log) R x w low.1 (subst (λ known. met (option_map (λ k. k.1) known) (fetched_byte (ram image log) R x (is_some (option_map (λ k. k.1) known))) ≡ Whole (Some w)) e m) in
       (parts.0, parts.1, parts.2, (waiting_wanted log p low e).1)
 
-  waits_right : (log : Log) (x w : ℕ) → Throughout (IsPlayed R image) log → meets R image log x ≡ Whole (Some w) → ¬ WaitsAsAnother (waiting log) x (w % 256)
+  waits_right : (log : Log) (x w : ℕ) → Throughout (FetchesMemory R image) log → meets R image log x ≡ Whole (Some w) → ¬ WaitsAsAnother (waiting log) x (w % 256)
   waits_right log x w p m k = by (waiting log) refl k
     where
       by : (known : Option (ℕ × ℕ)) → waiting log ≡ known → WaitsAsAnother known x (w % 256) → ⊥
@@ -181,7 +181,7 @@ module _ (R image : List ℕ) (small : IsImage image) where
     | inr t ↦ old v (rw t.0 at e)
   ]
 
-  word_of_rom : (log : Log) (x w a : ℕ) → 0x800 ≤ a → Throughout (IsPlayed R image) log → meets R image log x ≡ Whole (Some w) → IsWanted (history R image log) x
+  word_of_rom : (log : Log) (x w a : ℕ) → 0x800 ≤ a → Throughout (FetchesMemory R image) log → meets R image log x ≡ Whole (Some w) → IsWanted (history R image log) x
       → IsOfRom (told log a) a → IsOfRom (option_or (word_reads (waits (waiting log) x) x w a) (told log a)) a
   word_of_rom log x w a l p m f old v e =
       let low = word_met (ram image log) R (low_byte log) x w m in
@@ -206,7 +206,7 @@ module _ (R image : List ℕ) (small : IsImage image) where
         | inr t ↦ old v (sym (last (a == 2 * x)) ∙ rw t.0 at e)
       ]
 
-  rom_told : (log : Log) → Throughout (IsPlayed R image) log → (a : ℕ) → 0x800 ≤ a → IsOfRom (told log a) a
+  rom_told : (log : Log) → Throughout (FetchesMemory R image) log → (a : ℕ) → 0x800 ≤ a → IsOfRom (told log a) a
   rom_told [] p a l v e = absurd (none-some v e)
   rom_told ((ResetAll bytes ⟼ entry) ∷ log) p a l v e = absurd (none-some v e)
   rom_told ((Tick ⟼ Acted (Wrote b w)) ∷ log) p a l v e = rom_told log p.1 a l v (sym (unwritten log b w a l) ∙ e)
@@ -223,7 +223,7 @@ module _ (R image : List ℕ) (small : IsImage image) where
   parity a = elim (eqb_tells (a % 2) 0) [ inl t ↦ inl (let e = t.1 in omega arith) | inr t ↦ inr (let n = t.1 in omega arith) ]
 
   -- where memory stays, the same is told of it
-  same_told : (log later : Log) (a v u : ℕ) → Throughout (IsPlayed R image) log → Throughout (IsPlayed R image) later → byte image later a ≡ byte image log a
+  same_told : (log later : Log) (a v u : ℕ) → Throughout (FetchesMemory R image) log → Throughout (FetchesMemory R image) later → byte image later a ≡ byte image log a
       → told later a ≡ Some v → told log a ≡ Some u → v ≡ u
   same_told log later a v u p q same e f = elim (cases_lt a 0x800) [
     | inl l ↦ sym (told_true later q a l v e) ∙ (same ∙ told_true log p a l u f)
@@ -237,13 +237,13 @@ module _ (R image : List ℕ) (small : IsImage image) where
   ]
 
   -- what changes in memory changes by what is told
-  changes : (log : Log) (event : Happening) (entry : Shown) → Throughout (IsPlayed R image) log → IsPlayed R image log event entry → (a : ℕ) → Changes (stands image) a log entry → Changes told a log entry
+  changes : (log : Log) (event : Happening) (entry : Shown) → Throughout (FetchesMemory R image) log → FetchesMemory R image log event entry → (a : ℕ) → Changes (stands image) a log entry → Changes told a log entry
   changes log Tick (Acted (Wrote b w)) p q a c = (c.0, c.1, λ e. c.2 (ap Some (told_true log p a c.1 w e)))
   changes log event (Acted (Wrote b w)) p q a c = absurd q
   changes log event entry p q a c = absurd c
 
   -- what changes by what is told, and not in memory, wasn't told
-  untold : (log : Log) (entry : Shown) (a : ℕ) → Throughout (IsPlayed R image) log → Changes told a log entry → ¬ Changes (stands image) a log entry → told log a ≡ None
+  untold : (log : Log) (entry : Shown) (a : ℕ) → Throughout (FetchesMemory R image) log → Changes told a log entry → ¬ Changes (stands image) a log entry → told log a ≡ None
   untold log (Acted (Wrote b w)) a p c n = by (told log a) refl
     where
       by : (known : Option ℕ) → told log a ≡ known → known ≡ None
@@ -252,7 +252,7 @@ module _ (R image : List ℕ) (small : IsImage image) where
   untold log entry a p c n = absurd c
 
   -- what is read is what stands there, and so is what was told
-  agrees : (log : Log) (event : Happening) (entry : Shown) → Throughout (IsPlayed R image) log → IsPlayed R image log event entry → ¬ Contradicts log entry
+  agrees : (log : Log) (event : Happening) (entry : Shown) → Throughout (FetchesMemory R image) log → FetchesMemory R image log event entry → ¬ Contradicts log entry
   agrees log Fetch (Low x b) p q c = c.6 (same_told log ((Fetch ⟼ Low x b) ∷ log) c.0 c.1 c.2 p (q, p) refl (ap (λ read. option_or read (told log c.0)) c.4) c.5)
   agrees log Fetch (Fetched x w) p q (inl c) = c.6 (same_told log ((Fetch ⟼ Fetched x w) ∷ log) c.0 c.1 c.2 p (q, p) refl (ap (λ read. option_or read (told log c.0)) c.4) c.5)
   agrees log Fetch (Fetched x w) p q (inr k) = waits_right log x w p q.0 k
@@ -263,42 +263,42 @@ module _ (R image : List ℕ) (small : IsImage image) where
   agrees log event (Done x w drew) p q c = absurd q
   agrees log event entry p q c = none-some c.1 c.4
 
-  pub all_agree : (log : Log) → Throughout (IsPlayed R image) log → Throughout (λ log event entry. ¬ Contradicts log entry) log
+  pub all_agree : (log : Log) → Throughout (FetchesMemory R image) log → Throughout (λ log event entry. ¬ Contradicts log entry) log
   all_agree [] p = tt
   all_agree ((event ⟼ entry) ∷ log) p = (agrees log event entry p.1 p.0, all_agree log p.1)
 
-  changed : (part moment : Log) → Throughout (IsPlayed R image) (part ++ moment) → (a : ℕ) → HasChanged (stands image) a part moment → HasChanged told a part moment
+  changed : (part moment : Log) → Throughout (FetchesMemory R image) (part ++ moment) → (a : ℕ) → HasChanged (stands image) a part moment → HasChanged told a part moment
   changed [] moment p a c = absurd c
   changed ((event ⟼ entry) ∷ part) moment p a (inl c) = inl (changes (part ++ moment) event entry p.1 p.0 a c)
   changed ((event ⟼ entry) ∷ part) moment p a (inr c) = inr (changed part moment p.1 a c)
 
-  stand : (event : Happening) (entry : Shown) (log : Log) → Throughout (IsPlayed R image) log → IsPlayed R image log event entry → (StillStands told log → StillStands (stands image) log)
+  stand : (event : Happening) (entry : Shown) (log : Log) → Throughout (FetchesMemory R image) log → FetchesMemory R image log event entry → (StillStands told log → StillStands (stands image) log)
       → StillStands told ((event ⟼ entry) ∷ log) → StillStands (stands image) ((event ⟼ entry) ∷ log)
   stand event Started log p q f s = tt
   stand event entry log p q f s = ((λ a h c. s.0 a h (changes log event entry p q a c)), f s.1)
 
-  still : (log : Log) → Throughout (IsPlayed R image) log → StillStands told log → StillStands (stands image) log
+  still : (log : Log) → Throughout (FetchesMemory R image) log → StillStands told log → StillStands (stands image) log
   still [] p s = tt
   still ((event ⟼ entry) ∷ log) p s = stand event entry log p.1 p.0 (still log p.1) s
 
-  reads : (part moment : Log) → Throughout (IsPlayed R image) (part ++ moment) → Throughout (ReadsThen told moment) part → Throughout (ReadsThen (stands image) moment) part
+  reads : (part moment : Log) → Throughout (FetchesMemory R image) (part ++ moment) → Throughout (ReadsThen told moment) part → Throughout (ReadsThen (stands image) moment) part
   reads [] moment p r = tt
   reads ((event ⟼ entry) ∷ part) moment p r = ((r.0.0, λ a h c. r.0.1 a h (changed part moment p.1 a c)), reads part moment p.1 r.1)
 
-  later : (part moment : Log) → Throughout (IsPlayed R image) (part ++ moment) → Throughout (IsPlayed R image) moment
+  later : (part moment : Log) → Throughout (FetchesMemory R image) (part ++ moment) → Throughout (FetchesMemory R image) moment
   later [] moment p = p
   later ((event ⟼ entry) ∷ part) moment p = later part moment p.1
 
-  pub is_moment : (log since moment : Log) → Throughout (IsPlayed R image) log → IsMoment told log since moment → IsMoment (stands image) log since moment
+  pub is_moment : (log since moment : Log) → Throughout (FetchesMemory R image) log → IsMoment told log since moment → IsMoment (stands image) log since moment
   is_moment log since moment p m =
-      let q = subst (Throughout (IsPlayed R image)) m.split p in
+      let q = subst (Throughout (FetchesMemory R image)) m.split p in
       record { split = m.split; read_before = still moment (later since moment q) m.read_before; read_since = reads since moment q m.read_since }
 
-  line_is_enough : (log : Log) (event : Happening) (entry : Shown) → Throughout (IsPlayed R image) ((event ⟼ entry) ∷ log) → DrewItsMoment (stands image) R image log event entry → DrewItsMoment told R image log event entry
+  line_is_enough : (log : Log) (event : Happening) (entry : Shown) → Throughout (FetchesMemory R image) ((event ⟼ entry) ∷ log) → DrewItsMoment (stands image) R image log event entry → DrewItsMoment told R image log event entry
   line_is_enough log event (Done x w drew) p d = λ ws o since moment m run l. d ws o since moment (is_moment ((event ⟼ Done x w drew) ∷ log) since moment p m) run l
   line_is_enough log event entry p d = tt
 
-  all_is_enough : (log : Log) → Throughout (IsPlayed R image) log → Throughout (DrewItsMoment (stands image) R image) log → Throughout (DrewItsMoment told R image) log
+  all_is_enough : (log : Log) → Throughout (FetchesMemory R image) log → Throughout (DrewItsMoment (stands image) R image) log → Throughout (DrewItsMoment told R image) log
   all_is_enough [] p d = tt
   all_is_enough ((event ⟼ entry) ∷ log) p d = (line_is_enough log event entry p d.0, all_is_enough log p.1 d.1)
 

@@ -17,22 +17,22 @@ use Rattle.dvg_theorem.specs.Law.{Finishes}
 use Rattle.dvg_moment.specs.Moment.{Known, stands, told, Contradicts, Changes, IsMoment, IsOfOneMoment}
 
 -- the generator fetches what is in memory then; what the driver does, and when strobes arrive, is left open
-abbrev pub IsPlayed : List ℕ → List ℕ → Log → Happening → Shown → Type 0
-IsPlayed R image log Fetch entry = Fits R image log Fetch entry
-IsPlayed R image log Tick (Acted (Wrote a byte)) = byte < 256
-IsPlayed R image log Tick (Acted action) = Unit {0}
-IsPlayed R image log Strobe Started = Unit {0}
-IsPlayed R image log Strobe NoStrobe = Unit {0}
-IsPlayed R image log (Offer F) Offered = Unit {0}
-IsPlayed R image log (Offer F) (Refused fault) = Unit {0}
-IsPlayed R image log (Offer F) Busy = Unit {0}
-IsPlayed R image log Redraw NothingPublished = Unit {0}
-IsPlayed R image log Redraw Busy = Unit {0}
-IsPlayed R image log Redraw Asked = Unit {0}
-IsPlayed R image log ResetGen Cleared = Unit {0}
-IsPlayed R image log ResetCpu Cleared = Unit {0}
-IsPlayed R image log (ResetAll bytes) Cleared = IsImage bytes
-IsPlayed R image log event entry = ⊥
+abbrev pub FetchesMemory : List ℕ → List ℕ → Log → Happening → Shown → Type 0
+FetchesMemory R image log Fetch entry = Fits R image log Fetch entry
+FetchesMemory R image log Tick (Acted (Wrote a byte)) = byte < 256
+FetchesMemory R image log Tick (Acted action) = Unit {0}
+FetchesMemory R image log Strobe Started = Unit {0}
+FetchesMemory R image log Strobe NoStrobe = Unit {0}
+FetchesMemory R image log (Offer F) Offered = Unit {0}
+FetchesMemory R image log (Offer F) (Refused fault) = Unit {0}
+FetchesMemory R image log (Offer F) Busy = Unit {0}
+FetchesMemory R image log Redraw NothingPublished = Unit {0}
+FetchesMemory R image log Redraw Busy = Unit {0}
+FetchesMemory R image log Redraw Asked = Unit {0}
+FetchesMemory R image log ResetGen Cleared = Unit {0}
+FetchesMemory R image log ResetCpu Cleared = Unit {0}
+FetchesMemory R image log (ResetAll bytes) Cleared = IsImage bytes
+FetchesMemory R image log event entry = ⊥
 
 -- a consistent run that reaches HALT drew what a run over that moment's memory draws, in as many words
 abbrev pub DrewItsMoment : Known → List ℕ → List ℕ → Log → Happening → Shown → Type 0
@@ -45,18 +45,18 @@ DrewItsMoment known R image log event entry = Unit {0}
 
 -- so it is in every log that is played, whoever drives; what is known may depend on the first image
 abbrev pub DrawsTheMoment : (List ℕ → Known) → Type 0
-DrawsTheMoment known = (R image : List ℕ) (log : Log) → IsImage image → Throughout (IsPlayed R image) log
+DrawsTheMoment known = (R image : List ℕ) (log : Log) → IsImage image → Throughout (FetchesMemory R image) log
     → Throughout (DrewItsMoment (known image) R image) log
 
 -- whoever drives, nothing that is read contradicts what the log told
 abbrev pub NeverContradicts : Type 0
-NeverContradicts = (R image : List ℕ) (log : Log) → IsImage image → Throughout (IsPlayed R image) log
+NeverContradicts = (R image : List ℕ) (log : Log) → IsImage image → Throughout (FetchesMemory R image) log
     → Throughout (λ log event entry. ¬ Contradicts log entry) log
 
 -- whoever drives, a write that changes a byte by what the log told, and none in memory, is of a byte that wasn't told
 abbrev pub ErrsUntold : Type 0
 ErrsUntold = (R image : List ℕ) (log : Log) (entry : Shown) (a : ℕ) → IsImage image
-    → Throughout (IsPlayed R image) log → Changes told a log entry → ¬ Changes (stands image) a log entry
+    → Throughout (FetchesMemory R image) log → Changes told a log entry → ¬ Changes (stands image) a log entry
     → told log a ≡ None
 
 -- the newest run of a log is of a moment of which this holds
@@ -79,5 +79,5 @@ StoodThen R image log event entry = Unit {0}
 
 -- over each ROM a generator makes a log in which a run comes to its HALT and is mixed, also by what is told
 abbrev pub SomeRunIsTorn : Type 0
-SomeRunIsTorn = (R : List ℕ) → (image : List ℕ) × (log : Log) × IsImage image × Throughout (IsPlayed R image) log
+SomeRunIsTorn = (R : List ℕ) → (image : List ℕ) × (log : Log) × IsImage image × Throughout (FetchesMemory R image) log
     × (¬ Throughout (IsOfOneMoment (stands image)) log) × ¬ Throughout (IsOfOneMoment told) log

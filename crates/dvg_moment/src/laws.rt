@@ -1,8 +1,8 @@
 //! Laws of the definitions alone. Each is the contract of a function that does nothing.
 ghost use Rattle.dvg_log.specs.Legal.{Always};
 ghost use Rattle.dvg_moment.specs.Moment.{IsOfOneMoment, stands, told};
-ghost use Rattle.dvg_moment.specs.Played.{DrawsTheMoment, DrewAMoment, ErrsUntold};
-ghost use Rattle.dvg_moment.specs.Played.{IsPlayed, NeverContradicts, SomeRunIsTorn, StoodThen};
+ghost use Rattle.dvg_moment.specs.Played.{DrawsTheMoment, DrewAMoment, ErrsUntold, FetchesMemory};
+ghost use Rattle.dvg_moment.specs.Played.{NeverContradicts, SomeRunIsTorn, StoodThen};
 
 /// In every legal log each run that reaches HALT is consistent: there is a moment of the run
 /// such that no byte which the run reads changes between that moment and its reading. `world` says
@@ -44,7 +44,7 @@ pub fn told_is_enough()
 /// that hold whoever drives are of legal logs, too.
 #[tactic(auto, using(crate::proofs::Small::legal_is_played))]
 pub fn legal_is_played()
-    ensures { Always IsPlayed }
+    ensures { Always FetchesMemory }
 {}
 
 /// Whoever drives, no line contradicts what the log before it told. So if a line does, a writer is

@@ -12,7 +12,7 @@ use Rattle.dvg_rows.specs.RomAreas.{BeginsAt}
 use Rattle.dvg_named.specs.RomParts.{rom_list}
 use Rattle.dvg_rows.specs.Rows.{IsHeadLine, frame, rom}
 use Rattle.dvg_named.specs.Sections.{FrameRows, RomRows, Section, Spelled, frames, rom_sections}
-use Rattle.dvg_named.specs.SketchReading.{Breaks, Keeps}
+use Rattle.dvg_named.specs.SketchReading.{Breaks, KeepsAll}
 use Rattle.dvg_named.specs.SketchSteps.{begun}
 use Rattle.dvg_named.proofs.LaidMore.{Apart, Covers, apart_begun, covers_begun, covers_front, free_push}
 use Rattle.dvg_named.proofs.ReadCuts.{frame_list, frames_close, frames_cut, front_frames, goes_begin, roms_close, roms_cut, starts_later}
@@ -23,7 +23,7 @@ use Rattle.dvg_named.proofs.ReadMoves.{all_names, name_in}
 -- ---- a section begins
 
 module _ (stated : RomText) (closed : List Section) (last : Section) (of_frames of_rom_names names : List (List ℕ))
-    (count : ℕ) (held : RomArea) (h : Keeps stated closed last of_frames of_rom_names names count held) where
+    (count : ℕ) (held : RomArea) (h : KeepsAll stated closed last of_frames of_rom_names names count held) where
   abbrev all : Spelled
   all = sketch_of stated closed last
 
@@ -87,7 +87,7 @@ module _ (stated : RomText) (closed : List Section) (last : Section) (of_frames 
     }
 
     pub begun_frame : IsFresh of_frames name
-        → Keeps stated (closed ++ last ∷ []) (begun (frame name)) (of_frames ++ option_to_list name) of_rom_names [] 0 held
+        → KeepsAll stated (closed ++ last ∷ []) (begun (frame name)) (of_frames ++ option_to_list name) of_rom_names [] 0 held
     begun_frame fresh = record {
       starts = frame_starts;
       limits = within_out with_frame grown_frames all_roms frames_now roms_now (record {
@@ -154,7 +154,7 @@ module _ (stated : RomText) (closed : List Section) (last : Section) (of_frames 
     }
 
     pub begun_rom : (first : ℕ) → first ≡ first_stated stated.map → (new : RomArea) → BeginsAt first address held new
-        → Keeps stated (closed ++ last ∷ []) (begun (rom address)) of_frames of_rom_names [] 0 new
+        → KeepsAll stated (closed ++ last ∷ []) (begun (rom address)) of_frames of_rom_names [] 0 new
     begun_rom first e new begins =
         let at : new.next ≡ start_at stated all_roms address = begins.next ∙ is_start in
         let low = begins.low in

@@ -10,7 +10,7 @@ use Rattle.dvg_read.specs.Texts.{parts}
 use Rattle.dvg_rows.specs.Rows.{Doing, DoingParts, Head, HeadParts, Row, RowParts}
 use Rattle.dvg_rows.specs.Rows as rows
 use Rattle.dvg_named.specs.Sections.{Spelled}
-use Rattle.dvg_named.specs.SketchSteps.{Goes, adds, begins, tells, tops}
+use Rattle.dvg_named.specs.SketchSteps.{SketchTakes, adds, begins, tells, tops}
 
 few_of_op : {op : OpKind} {ps : List (List ℕ)} → OpParts op ps → length ps ≤ 9
 few_of_op (ops.vctr h) = omega arith
@@ -63,7 +63,7 @@ few_of_stated (tells_map m) = few_of_map m
 few_of_stated (gives_words given h) = few_of_words _ given _ h
 
 -- a line of more tokens doesn't go on
-pub few_tokens : (s t : Spelled) (line : List ℕ) → Goes s line t → length (parts line) ≤ 10
+pub few_tokens : (s t : Spelled) (line : List ℕ) → SketchTakes s line t → length (parts line) ≤ 10
 few_tokens s t line (tells h) = few_of_stated h
 few_tokens s t line (tops row h) = few_of_row h
 few_tokens s t line (adds before section row e may h) = few_of_row h

@@ -14,7 +14,7 @@ use Rattle.dvg_named.specs.ReadParts.{free_stated}
 use Rattle.dvg_named.specs.RomParts.{rom_in}
 use Rattle.dvg_rows.specs.Rows.{Head, Row, frame, rom, top}
 use Rattle.dvg_named.specs.Sections.{FrameRows, RomRows, Section, Spelled, frame_of, frames, rom_sections, top_frame}
-use Rattle.dvg_named.specs.SketchSteps.{Goes, adds, begins, begun, so_far, tells, tops, with_row}
+use Rattle.dvg_named.specs.SketchSteps.{SketchTakes, adds, begins, begun, so_far, tells, tops, with_row}
 use Rattle.dvg_named.proofs.LaidMore.{Apart, apart_from, apart_push, laid_push}
 use Rattle.dvg_named.proofs.NamesMore.{all_front, all_last, names_more, pairs_front}
 use Rattle.dvg_named.proofs.ReadCuts.{top_alone, top_before, top_list}
@@ -216,7 +216,7 @@ section_begun stated (row ∷ rows) [] head = frames_begun (framed None (row ∷
 section_begun stated [] (section ∷ others) head = frames_begun [] (section ∷ others) head
 section_begun stated (row ∷ rows) (section ∷ others) head = frames_begun (framed None (row ∷ rows) ∷ []) (section ∷ others) head
 
-frames_grow : (s t : Spelled) (l : List ℕ) → Goes s l t → Grows (frames s) (frames t)
+frames_grow : (s t : Spelled) (l : List ℕ) → SketchTakes s l t → Grows (frames s) (frames t)
 frames_grow s t l (tells g) = same refl
 frames_grow s t l (tops {first = first} row is) = longer [] None first row (top_alone first) (top_alone (first ++ row ∷ []))
 frames_grow s t l (adds {rom = stated} {first = first} before section row e may is) =
@@ -226,7 +226,7 @@ frames_grow s t l (adds {rom = stated} {first = first} before section row e may 
     (frame_longer (top_list first ++ filter_map frame_in before) section.head section.rows row))
 frames_grow s t l (begins {rom = stated} {first = first} {others = others} head is) = section_begun stated first others head
 
-roms_extend : (s t : Spelled) (l : List ℕ) → Goes s l t → Extends (rom_sections s) (rom_sections t)
+roms_extend : (s t : Spelled) (l : List ℕ) → SketchTakes s l t → Extends (rom_sections s) (rom_sections t)
 roms_extend s t l (tells g) = same refl
 roms_extend s t l (tops row is) = same refl
 roms_extend s t l (adds before section row e may is) =
@@ -249,7 +249,7 @@ kept_as s t stated grows extends h =
     (within_in t (frames t) (rom_sections t) refl refl h)))
 
 -- without its last line
-kept_before : (s t : Spelled) (l : List ℕ) → Goes s l t → KeepsLimits t → KeepsLimits s
+kept_before : (s t : Spelled) (l : List ℕ) → SketchTakes s l t → KeepsLimits t → KeepsLimits s
 kept_before s t l (tells {rom = stated} {now = now} g) h = record {
   once = record { in_frames = h.once.in_frames; in_rom = h.once.in_rom; of_frames = h.once.of_frames };
   drafts = h.drafts;
@@ -262,6 +262,6 @@ kept_before s t l (adds before section row e may is) h =
 kept_before s t l (begins head is) h = kept_as s t refl (frames_grow s t l (begins head is)) (roms_extend s t l (begins head is)) h
 
 -- without its last lines
-pub limits_front : (s t : Spelled) (ls : List (List ℕ)) → Leads Goes s ls t → KeepsLimits t → KeepsLimits s
+pub limits_front : (s t : Spelled) (ls : List (List ℕ)) → Leads SketchTakes s ls t → KeepsLimits t → KeepsLimits s
 limits_front s t [] here h = h
 limits_front s t (l ∷ ls) (on {t = mid} g p) h = kept_before s mid l g (limits_front mid t ls p h)

@@ -19,7 +19,7 @@ use Rattle.dvg_rows.specs.PlainLines.{plain, plain_lines, tokens}
 use Rattle.dvg_named.specs.RomParts.{rom_in}
 use Rattle.dvg_rows.specs.Rows.{Doing, Head, IsHeadLine, IsRowLine, Row, calls, calls_rom, frame, jumps, jumps_rom, plainly, rom, top}
 use Rattle.dvg_named.specs.Sections.{FrameRows, RomRows, Section, Spelled, SpellsSection, SpellsSketch, frames, rom_sections, sections, top_frame}
-use Rattle.dvg_named.specs.SketchSteps.{Goes}
+use Rattle.dvg_named.specs.SketchSteps.{SketchTakes}
 use Rattle.dvg_named.specs.Ungiven.{framed, in_rom}
 use Rattle.dvg_named.proofs.DraftRows.{drafted_known}
 use Rattle.dvg_named.proofs.LineFaults.{unpassed_past}
@@ -204,7 +204,7 @@ none_unknown text stated_rom result n d w =
     let (part, up_to, leads) = front_spells fine front (unpassed w.after) (subst (SpellsSketch fine) lines w.fine.spelled) in
     let also = one_sketch part w.part front up_to w.up_to in
     let held = stands_after w.part fine (unpassed w.after) (length w.part.others) w.row
-    (subst (λ part. Leads Goes part (unpassed w.after) fine) (sym also) leads)
+    (subst (λ part. Leads SketchTakes part (unpassed w.after) fine) (sym also) leads)
     (stands_in w.part (unpassed w.before) w.line w.row w.up_to w.spelled) in
     let both : Some held.section ≡ Some w.section = sym held.stands ∙ w.inside in
     let here : held.section ≡ w.section = cc in

@@ -17,7 +17,7 @@ use Rattle.dvg_read.proofs.Zips.{zip_push}
 use Rattle.dvg_rows.specs.Rows.{Doing, DoingParts, Head, HeadParts, IsHeadLine, IsName, IsRowLine, Row, RowParts, plain}
 use Rattle.dvg_rows.specs.Rows as rows
 use Rattle.dvg_named.specs.Sections.{MayStand, Section, Spelled, SpellsSection, SpellsSketch}
-use Rattle.dvg_named.specs.SketchSteps.{Goes, adds, begins, begun, so_far, tells, tops, with_row}
+use Rattle.dvg_named.specs.SketchSteps.{SketchTakes, adds, begins, begun, so_far, tells, tops, with_row}
 use Rattle.dvg_rows.proofs.RowSpelling.{RowCase, alone, before, colon_at_end, does_not_name, last_byte, no_tokens_no_doing, no_tokens_no_row, not_plain}
 use Rattle.dvg_rows.proofs.RowSpelling.{one_call, one_callrom, one_jump, one_jumprom, row_case, unnamed}
 
@@ -141,7 +141,7 @@ same_adds rom first front others section next row also e f g = rw (e, f, g)
 none_ends : (front : List Section) (section : Section) → [] ≡ front ++ section ∷ [] → ⊥
 none_ends front section e = omega (arith, ap length e, length-append front (section ∷ []))
 
-one_way : (s t u : Spelled) (l : List ℕ) → Goes s l t → Goes s l u → u ≡ t
+one_way : (s t u : Spelled) (l : List ℕ) → SketchTakes s l t → SketchTakes s l u → u ≡ t
 one_way s t u l (tells {rom = rom} {now = now} g) (tells {now = also} h) =
     ap (λ rom. so_far rom [] []) (one_stated rom now also l g h)
 one_way s t u l (tells g) (tops row h) = absurd (tells_no_row g h)
@@ -222,7 +222,7 @@ flat_last A front last l =
     ap (λ k. k ++ l ∷ []) (sym (flat_map_more (λ lines. lines) A front last))
     ∙ append_assoc (A ++ flat front) last (l ∷ []) ∙ flat_map_more (λ lines. lines) A front (last ++ l ∷ [])
 
-pub says_more : (s t : Spelled) (l : List ℕ) (ls : List (List ℕ)) → SpellsSketch s ls → Goes s l t
+pub says_more : (s t : Spelled) (l : List ℕ) (ls : List (List ℕ)) → SpellsSketch s ls → SketchTakes s l t
     → SpellsSketch t (ls ++ l ∷ [])
 says_more s t l ls p (tells h) =
     let no_rows = no_items IsRowLine p.rows p.first in
@@ -281,22 +281,22 @@ says_more s t l ls p (begins {others = others} head h) = record {
 -- ---- all lines in turn
 
 rom_lines_lead : (rom now : RomText) (ls : List (List ℕ)) → Leads TellsRom rom ls now
-    → Leads Goes (so_far rom [] []) ls (so_far now [] [])
+    → Leads SketchTakes (so_far rom [] []) ls (so_far now [] [])
 rom_lines_lead rom now [] here = here
 rom_lines_lead rom now (l ∷ ls) (on {t = mid} g p) =
-    let first : Goes (so_far rom [] []) l (so_far mid [] []) = tells g in
+    let first : SketchTakes (so_far rom [] []) l (so_far mid [] []) = tells g in
     on first (rom_lines_lead mid now ls p)
 
 rows_lead : (rom : RomText) (first more : List Row) (ls : List (List ℕ)) → AllZip IsRowLine more ls
-    → Leads Goes (so_far rom first []) ls (so_far rom (first ++ more) [])
+    → Leads SketchTakes (so_far rom first []) ls (so_far rom (first ++ more) [])
 rows_lead rom first [] [] h =
-    subst (λ k. Leads Goes (so_far rom first []) [] (so_far rom k [])) (sym (append-nil first)) here
+    subst (λ k. Leads SketchTakes (so_far rom first []) [] (so_far rom k [])) (sym (append-nil first)) here
 rows_lead rom first [] (l ∷ ls) h = absurd h
 rows_lead rom first (row ∷ more) [] h = absurd h
 rows_lead rom first (row ∷ more) (l ∷ ls) h =
-    let one : Goes (so_far rom first []) l (so_far rom (first ++ row ∷ []) []) = tops row h.0 in
+    let one : SketchTakes (so_far rom first []) l (so_far rom (first ++ row ∷ []) []) = tops row h.0 in
     let rest = rows_lead rom (first ++ row ∷ []) more ls h.1 in
-    on one (subst (λ k. Leads Goes (so_far rom (first ++ row ∷ []) []) ls (so_far rom k [])) (append_assoc first (row ∷ []) more) rest)
+    on one (subst (λ k. Leads SketchTakes (so_far rom (first ++ row ∷ []) []) ls (so_far rom k [])) (append_assoc first (row ∷ []) more) rest)
 
 -- a section with these rows
 abbrev having : Head → List Row → Section
@@ -305,46 +305,46 @@ having head rows = record { head = head; rows = rows }
 module _ (rom : RomText) (first : List Row) where
   added_lead : (front : List Section) (head : Head) (done more : List Row) (ls : List (List ℕ)) → AllZip IsRowLine more ls
       → All (MayStand head) more
-      → Leads Goes (so_far rom first (front ++ having head done ∷ [])) ls (so_far rom first (front ++ having head (done ++ more) ∷ []))
+      → Leads SketchTakes (so_far rom first (front ++ having head done ∷ [])) ls (so_far rom first (front ++ having head (done ++ more) ∷ []))
   added_lead front head done [] [] h may =
-      subst (λ k. Leads Goes (so_far rom first (front ++ having head done ∷ [])) [] (so_far rom first (front ++ having head k ∷ [])))
+      subst (λ k. Leads SketchTakes (so_far rom first (front ++ having head done ∷ [])) [] (so_far rom first (front ++ having head k ∷ [])))
       (sym (append-nil done)) here
   added_lead front head done [] (l ∷ ls) h may = absurd h
   added_lead front head done (row ∷ more) [] h may = absurd h
   added_lead front head done (row ∷ more) (l ∷ ls) h may =
-      let one : Goes (so_far rom first (front ++ having head done ∷ [])) l (so_far rom first (front ++ having head (done ++ row ∷ []) ∷ [])) =
+      let one : SketchTakes (so_far rom first (front ++ having head done ∷ [])) l (so_far rom first (front ++ having head (done ++ row ∷ []) ∷ [])) =
       adds front (having head done) row refl (All-head (MayStand head) row more may) h.0 in
       let rest = added_lead front head (done ++ row ∷ []) more ls h.1 (All-tail (MayStand head) row more may) in
       on one
       (subst
-      (λ k. Leads Goes (so_far rom first (front ++ having head (done ++ row ∷ []) ∷ [])) ls (so_far rom first (front ++ having head k ∷ [])))
+      (λ k. Leads SketchTakes (so_far rom first (front ++ having head (done ++ row ∷ []) ∷ [])) ls (so_far rom first (front ++ having head k ∷ [])))
       (append_assoc done (row ∷ []) more) rest)
 
   section_leads : (front : List Section) (section : Section) (ls : List (List ℕ)) → SpellsSection section ls
-      → Leads Goes (so_far rom first front) ls (so_far rom first (front ++ section ∷ []))
+      → Leads SketchTakes (so_far rom first front) ls (so_far rom first (front ++ section ∷ []))
   section_leads front section ls h =
-      let one : Goes (so_far rom first front) h.begin (so_far rom first (front ++ begun section.head ∷ [])) =
+      let one : SketchTakes (so_far rom first front) h.begin (so_far rom first (front ++ begun section.head ∷ [])) =
       begins section.head h.head in
-      subst (λ k. Leads Goes (so_far rom first front) k (so_far rom first (front ++ section ∷ []))) (sym h.cut)
+      subst (λ k. Leads SketchTakes (so_far rom first front) k (so_far rom first (front ++ section ∷ []))) (sym h.cut)
       (on one (added_lead front section.head [] section.rows h.rest h.rows h.may))
 
   sections_lead : (front others : List Section) (rest : List (List (List ℕ))) → AllZip SpellsSection others rest
-      → Leads Goes (so_far rom first front) (flat rest) (so_far rom first (front ++ others))
+      → Leads SketchTakes (so_far rom first front) (flat rest) (so_far rom first (front ++ others))
   sections_lead front [] [] h =
-      subst (λ k. Leads Goes (so_far rom first front) [] (so_far rom first k)) (sym (append-nil front)) here
+      subst (λ k. Leads SketchTakes (so_far rom first front) [] (so_far rom first k)) (sym (append-nil front)) here
   sections_lead front [] (ls ∷ rest) h = absurd h
   sections_lead front (section ∷ others) [] h = absurd h
   sections_lead front (section ∷ others) (ls ∷ rest) h =
-      further Goes (so_far rom first front) (so_far rom first (front ++ section ∷ [])) (so_far rom first (front ++ section ∷ others)) ls (flat rest)
+      further SketchTakes (so_far rom first front) (so_far rom first (front ++ section ∷ [])) (so_far rom first (front ++ section ∷ others)) ls (flat rest)
       (section_leads front section ls h.0)
-      (subst (λ k. Leads Goes (so_far rom first (front ++ section ∷ [])) (flat rest) (so_far rom first k)) (append_assoc front (section ∷ []) others)
+      (subst (λ k. Leads SketchTakes (so_far rom first (front ++ section ∷ [])) (flat rest) (so_far rom first k)) (append_assoc front (section ∷ []) others)
       (sections_lead (front ++ section ∷ []) others rest h.1))
 
-pub leads_to : (s : Spelled) (ls : List (List ℕ)) → SpellsSketch s ls → Leads Goes nothing ls s
+pub leads_to : (s : Spelled) (ls : List (List ℕ)) → SpellsSketch s ls → Leads SketchTakes nothing ls s
 leads_to s ls p =
-    subst (λ k. Leads Goes nothing k s) (sym p.cut)
-    (further Goes nothing (so_far s.rom s.first []) s (p.front ++ p.rows) (flat p.rest)
-    (further Goes nothing (so_far s.rom [] []) (so_far s.rom s.first []) p.front p.rows
+    subst (λ k. Leads SketchTakes nothing k s) (sym p.cut)
+    (further SketchTakes nothing (so_far s.rom s.first []) s (p.front ++ p.rows) (flat p.rest)
+    (further SketchTakes nothing (so_far s.rom [] []) (so_far s.rom s.first []) p.front p.rows
     (rom_lines_lead unstated s.rom p.front (rom_leads p.stated)) (rows_lead s.rom [] s.first p.rows p.first))
     (sections_lead s.rom s.first [] s.others p.rest p.others))
 
@@ -352,14 +352,14 @@ leads_to s ls p =
 
 -- a line that goes on from what others spell
 pub goes_on : (s t : Spelled) (ls : List (List ℕ)) (l : List ℕ) → SpellsSketch s ls → SpellsSketch t (ls ++ l ∷ [])
-    → Goes s l t
-goes_on = last_line Goes one_way SpellsSketch nothing says_nothing says_more leads_to
+    → SketchTakes s l t
+goes_on = last_line SketchTakes one_way SpellsSketch nothing says_nothing says_more leads_to
 
 -- lines spell one sketch at most
 pub one_sketch : (s t : Spelled) (ls : List (List ℕ)) → SpellsSketch s ls → SpellsSketch t ls → t ≡ s
-one_sketch = one_saying Goes one_way SpellsSketch nothing says_nothing says_more leads_to
+one_sketch = one_saying SketchTakes one_way SpellsSketch nothing says_nothing says_more leads_to
 
 -- a front of lines that spell a sketch spells one
 pub front_spells : (u : Spelled) (ls more : List (List ℕ)) → SpellsSketch u (ls ++ more)
-    → (s : Spelled) × SpellsSketch s ls × Leads Goes s more u
-front_spells = front_says Goes one_way SpellsSketch nothing says_nothing says_more leads_to
+    → (s : Spelled) × SpellsSketch s ls × Leads SketchTakes s more u
+front_spells = front_says SketchTakes one_way SpellsSketch nothing says_nothing says_more leads_to

@@ -19,8 +19,8 @@ use Rattle.dvg_named.specs.ReadParts.{KeepsNext, free_stated, sketch_of}
 use Rattle.dvg_rows.specs.RomAreas.{BeginsAt, StopsBegin}
 use Rattle.dvg_rows.specs.Rows.{Head, IsHeadLine, frame, rom, top}
 use Rattle.dvg_named.specs.Sections.{Section}
-use Rattle.dvg_named.specs.SketchReading.{IsBare, Keeps, Opens, Reads, ReadsMore, StopsSketch, closed_in, head_in, section_in, spelled_in}
-use Rattle.dvg_named.specs.SketchSteps.{Goes, begun, tells}
+use Rattle.dvg_named.specs.SketchReading.{IsBare, KeepsAll, Opens, Reads, ReadsMore, StopsSketch, closed_in, head_in, section_in, spelled_in}
+use Rattle.dvg_named.specs.SketchSteps.{SketchTakes, begun, tells}
 use Rattle.dvg_named.specs.StatedRoms.{HoldsStated, TellsStated}
 use Rattle.dvg_named.proofs.ReadCuts.{goes_begin}
 use Rattle.dvg_named.proofs.ReadLimits.{IsOnce, IsSmall}
@@ -31,26 +31,26 @@ use Rattle.dvg_named.proofs.ReadRows.{names_stop}
 pub keeps_as : (stated : RomText) (closed closed_now : List Section) (last now : Section)
     (of_frames frames_now of_rom rom_now names names_now : List (List ℕ)) (count count_now : ℕ) (held area_now : RomArea)
     → closed_now ≡ closed → now ≡ last → frames_now ≡ of_frames → rom_now ≡ of_rom → names_now ≡ names
-    → count_now ≡ count → area_now ≡ held → Keeps stated closed last of_frames of_rom names count held
-    → Keeps stated closed_now now frames_now rom_now names_now count_now area_now
+    → count_now ≡ count → area_now ≡ held → KeepsAll stated closed last of_frames of_rom names count held
+    → KeepsAll stated closed_now now frames_now rom_now names_now count_now area_now
 keeps_as stated closed closed_now last now of_frames frames_now of_rom rom_now names names_now count count_now held area_now a b c d e f g h =
-    subst (λ closed. Keeps stated closed now frames_now rom_now names_now count_now area_now) (sym a)
-    (subst (λ last. Keeps stated closed last frames_now rom_now names_now count_now area_now) (sym b)
-    (subst (λ frames. Keeps stated closed last frames rom_now names_now count_now area_now) (sym c)
-    (subst (λ roms. Keeps stated closed last of_frames roms names_now count_now area_now) (sym d)
-    (subst (λ names. Keeps stated closed last of_frames of_rom names count_now area_now) (sym e)
-    (subst (λ count. Keeps stated closed last of_frames of_rom names count area_now) (sym f)
-    (subst (λ area. Keeps stated closed last of_frames of_rom names count area) (sym g) h))))))
+    subst (λ closed. KeepsAll stated closed now frames_now rom_now names_now count_now area_now) (sym a)
+    (subst (λ last. KeepsAll stated closed last frames_now rom_now names_now count_now area_now) (sym b)
+    (subst (λ frames. KeepsAll stated closed last frames rom_now names_now count_now area_now) (sym c)
+    (subst (λ roms. KeepsAll stated closed last of_frames roms names_now count_now area_now) (sym d)
+    (subst (λ names. KeepsAll stated closed last of_frames of_rom names count_now area_now) (sym e)
+    (subst (λ count. KeepsAll stated closed last of_frames of_rom names count area_now) (sym f)
+    (subst (λ area. KeepsAll stated closed last of_frames of_rom names count area) (sym g) h))))))
 
 -- ---- a section begins
 
 module _ {A : Type 0} (old : Reading A) (stated : RomText) (line : List ℕ) (reads : Reads stated old) where
   goes_opened : (mid new : Reading A) (head : Head) → closed_in mid ≡ closed_in old → section_in mid.last ≡ section_in old.last
-      → IsHeadLine head line → Opens mid head new → Goes (spelled_in stated old) line (spelled_in stated new)
+      → IsHeadLine head line → Opens mid head new → SketchTakes (spelled_in stated old) line (spelled_in stated new)
   goes_opened mid new head same kept spelled opened =
-      subst (λ closed. Goes (spelled_in stated old) line (sketch_of stated closed (section_in new.last)))
+      subst (λ closed. SketchTakes (spelled_in stated old) line (sketch_of stated closed (section_in new.last)))
       (sym (opened.closed ∙ ap (λ l. l ++ section_in mid.last ∷ []) same ∙ ap (λ s. closed_in old ++ s ∷ []) kept))
-      (subst (λ last. Goes (spelled_in stated old) line (sketch_of stated (closed_in old ++ section_in old.last ∷ []) last))
+      (subst (λ last. SketchTakes (spelled_in stated old) line (sketch_of stated (closed_in old ++ section_in old.last ∷ []) last))
       (sym opened.opened) (goes_begin stated (closed_in old) (section_in old.last) head line spelled))
 
   pub frame_opened : (names : GivenNames A) (name : Option (List ℕ)) (new : Reading A) → IsHeadLine (frame name) line
@@ -137,7 +137,7 @@ next_at_top stated (rom address) next e = absurd cc
 -- what is kept where nothing was spelled
 kept_bare : (stated : RomText) (of_frames of_rom names : List (List ℕ)) (count : ℕ) (held : RomArea) → of_frames ≡ [] → of_rom ≡ []
     → names ≡ [] → count ≡ 0 → held.free ≡ free_stated stated → ((a : ℕ) → get_or held.is_taken a false ≡ false)
-    → Keeps stated [] (record { head = top; rows = [] }) of_frames of_rom names count held
+    → KeepsAll stated [] (record { head = top; rows = [] }) of_frames of_rom names count held
 kept_bare stated of_frames of_rom names count held a b c d free none = record {
   starts = refl;
   limits = nothing_kept stated top;
@@ -170,8 +170,8 @@ begins_bare reading holds closed head rows a b c d free none = record {
 
 stated_rows : (stated now : RomText) (head : Head) (of_frames of_rom names : List (List ℕ)) (count : ℕ) (held new : RomArea)
     → new.free ≡ free_stated now → new.is_taken ≡ held.is_taken
-    → Keeps stated [] (record { head = head; rows = [] }) of_frames of_rom names count held
-    → Keeps now [] (record { head = head; rows = [] }) of_frames of_rom names count new
+    → KeepsAll stated [] (record { head = head; rows = [] }) of_frames of_rom names count held
+    → KeepsAll now [] (record { head = head; rows = [] }) of_frames of_rom names count new
 stated_rows stated now head of_frames of_rom names count held new free taken h = record {
   starts = h.starts;
   limits = nothing_kept now head;
@@ -188,21 +188,21 @@ stated_rows stated now head of_frames of_rom names count held new free taken h =
 
 stated_by : (stated now : RomText) (closed : List Section) (last : Section) (of_frames of_rom names : List (List ℕ)) (count : ℕ)
     (held new : RomArea) → closed ≡ [] → last.rows ≡ [] → new.free ≡ free_stated now → new.is_taken ≡ held.is_taken
-    → Keeps stated closed last of_frames of_rom names count held → Keeps now closed last of_frames of_rom names count new
+    → KeepsAll stated closed last of_frames of_rom names count held → KeepsAll now closed last of_frames of_rom names count new
 stated_by stated now closed last of_frames of_rom names count held new none empty free taken h =
     let is : last ≡ record { head = last.head; rows = [] } = ap (λ rows. record { head = last.head; rows = rows }) empty in
-    subst (λ closed. Keeps now closed last of_frames of_rom names count new) (sym none)
-    (subst (λ last. Keeps now [] last of_frames of_rom names count new) (sym is)
+    subst (λ closed. KeepsAll now closed last of_frames of_rom names count new) (sym none)
+    (subst (λ last. KeepsAll now [] last of_frames of_rom names count new) (sym is)
     (stated_rows stated now last.head of_frames of_rom names count held new free taken
-    (subst (λ last. Keeps stated [] last of_frames of_rom names count held) is
-    (subst (λ closed. Keeps stated closed last of_frames of_rom names count held) none h))))
+    (subst (λ last. KeepsAll stated [] last of_frames of_rom names count held) is
+    (subst (λ closed. KeepsAll stated closed last of_frames of_rom names count held) none h))))
 
 goes_stated : (stated now : RomText) (closed : List Section) (last : Section) (line : List ℕ) → closed ≡ [] → last.rows ≡ []
-    → TellsRom stated line now → Goes (sketch_of stated closed last) line (sketch_of now closed last)
+    → TellsRom stated line now → SketchTakes (sketch_of stated closed last) line (sketch_of now closed last)
 goes_stated stated now closed last line none empty h =
     let is : last ≡ record { head = last.head; rows = [] } = ap (λ rows. record { head = last.head; rows = rows }) empty in
-    subst (λ closed. Goes (sketch_of stated closed last) line (sketch_of now closed last)) (sym none)
-    (subst (λ last. Goes (sketch_of stated [] last) line (sketch_of now [] last)) (sym is) (tells h))
+    subst (λ closed. SketchTakes (sketch_of stated closed last) line (sketch_of now closed last)) (sym none)
+    (subst (λ last. SketchTakes (sketch_of stated [] last) line (sketch_of now [] last)) (sym is) (tells h))
 
 pub rom_stated : {A : Type 0} (old : Reading A) (stated : RomText) (line : List ℕ) (held : StatedRom) (area : RomArea)
     → IsBare old → Reads stated old → TellsStated stated line held → area.free ≡ held.free → area.is_taken ≡ old.area.is_taken

@@ -10,19 +10,19 @@ use Rattle.dvg_named.specs.ReadParts.{StartsAtTop, front_roms, sketch_of}
 use Rattle.dvg_named.specs.RomParts.{rom_in, rom_list}
 use Rattle.dvg_rows.specs.Rows.{Head, IsHeadLine, IsRowLine, Row, frame, rom, top}
 use Rattle.dvg_named.specs.Sections.{FrameRows, MayStand, Section, Spelled, frame_of, frames, rom_sections, top_frame}
-use Rattle.dvg_named.specs.SketchSteps.{Goes, adds, begins, begun, so_far, tells, tops, with_row}
+use Rattle.dvg_named.specs.SketchSteps.{SketchTakes, adds, begins, begun, so_far, tells, tops, with_row}
 
 -- ---- a line more
 
 -- a row in the last section
 pub goes_row : (stated : RomText) (closed : List Section) (last : Section) (row : Row) (line : List ℕ) → MayStand last.head row
-    → IsRowLine row line → Goes (sketch_of stated closed last) line (sketch_of stated closed (with_row last row))
+    → IsRowLine row line → SketchTakes (sketch_of stated closed last) line (sketch_of stated closed (with_row last row))
 goes_row stated [] last row line may is = tops row is
 goes_row stated (first ∷ others) last row line may is = adds others last row refl may is
 
 -- a section more
 pub goes_begin : (stated : RomText) (closed : List Section) (last : Section) (head : Head) (line : List ℕ) → IsHeadLine head line
-    → Goes (sketch_of stated closed last) line (sketch_of stated (closed ++ last ∷ []) (begun head))
+    → SketchTakes (sketch_of stated closed last) line (sketch_of stated (closed ++ last ∷ []) (begun head))
 goes_begin stated [] last head line is = begins head is
 goes_begin stated (first ∷ others) last head line is = begins head is
 
@@ -32,7 +32,7 @@ none_ends front x e = omega (arith, ap length e, length-append front (x ∷ []))
 top_stops : (stated : RomText) (last : Section) (line : List ℕ) (s t : Spelled) → last.head ≡ top
     → s ≡ so_far stated last.rows [] → (last.rows ≡ [] → (now : RomText) → ¬ TellsRom stated line now)
     → ((head : Head) → ¬ IsHeadLine head line) → ((row : Row) → IsRowLine row line → ¬ MayStand last.head row)
-    → Goes s line t → ⊥
+    → SketchTakes s line t → ⊥
 top_stops stated last line s t at e no_rom no_head no_row (tells {rom = old} {now = now} g) =
     let rows : last.rows ≡ [] = ap (λ s. s.first) (sym e) in
     let same : old ≡ stated = ap (λ s. s.rom) e in
@@ -47,7 +47,7 @@ top_stops stated last line s t at e no_rom no_head no_row (begins head is) = no_
 later_stops : (stated : RomText) (first : Section) (others : List Section) (last : Section) (line : List ℕ) (s t : Spelled)
     → s ≡ so_far stated first.rows (others ++ last ∷ [])
     → ((head : Head) → ¬ IsHeadLine head line) → ((row : Row) → IsRowLine row line → ¬ MayStand last.head row)
-    → Goes s line t → ⊥
+    → SketchTakes s line t → ⊥
 later_stops stated first others last line s t e no_head no_row (tells g) = none_ends others last (ap (λ s. s.others) e)
 later_stops stated first others last line s t e no_head no_row (tops row is) = none_ends others last (ap (λ s. s.others) e)
 later_stops stated first others last line s t e no_head no_row (adds front section row is_last may is) =
@@ -60,7 +60,7 @@ later_stops stated first others last line s t e no_head no_row (begins head is) 
 pub nothing_goes : (stated : RomText) (closed : List Section) (last : Section) (line : List ℕ) (t : Spelled) → StartsAtTop closed last
     → (closed ≡ [] → last.rows ≡ [] → (now : RomText) → ¬ TellsRom stated line now)
     → ((head : Head) → ¬ IsHeadLine head line) → ((row : Row) → IsRowLine row line → ¬ MayStand last.head row)
-    → ¬ Goes (sketch_of stated closed last) line t
+    → ¬ SketchTakes (sketch_of stated closed last) line t
 nothing_goes stated [] last line t at no_rom no_head no_row g =
     top_stops stated last line (so_far stated last.rows []) t at refl (no_rom refl) no_head no_row g
 nothing_goes stated (first ∷ others) last line t at no_rom no_head no_row g =

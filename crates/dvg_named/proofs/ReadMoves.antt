@@ -16,8 +16,8 @@ use Rattle.dvg_named.specs.RomParts.{rom_list}
 use Rattle.dvg_named.specs.RowMoves.{IsCounted, IsFrameHead, IsFull}
 use Rattle.dvg_rows.specs.Rows.{Head, IsRowLine, Row, frame, rom, top}
 use Rattle.dvg_named.specs.Sections.{FrameRows, MayStand, RomRows, Section, Spelled, frames, rom_sections}
-use Rattle.dvg_named.specs.SketchReading.{Breaks, Keeps}
-use Rattle.dvg_named.specs.SketchSteps.{Goes}
+use Rattle.dvg_named.specs.SketchReading.{Breaks, KeepsAll}
+use Rattle.dvg_named.specs.SketchSteps.{SketchTakes}
 use Rattle.dvg_named.proofs.LaidMore.{Apart, Covers, apart_free, apart_longer, free_push, on_longer, only_longer}
 use Rattle.dvg_named.proofs.ReadCuts.{frame_list, frames_cut, front_frames, goes_row, roms_cut, starts_with}
 use Rattle.dvg_named.proofs.ReadLimits.{IsInRom, IsSmall, Once, Within, drafts_out, drafts_in, framed, laid_all, laid_last, of_rom, once_in, once_out, rom_in, rom_out, apart_in, start_at, within_in, within_out}
@@ -41,7 +41,7 @@ module _ (stated : RomText) (closed : List Section) (head : Head) (name : Option
     (in_list : (rows : List Row) → frame_list head rows ≡ framed name rows ∷ [])
     (no_rom : (rows : List Row) → rom_list head rows ≡ [])
     (may : MayStand head row)
-    (h : Keeps stated closed (part head rows) of_frames of_rom_names names count held)
+    (h : KeepsAll stated closed (part head rows) of_frames of_rom_names names count held)
     (kept : (names ≡ names_of rows) × (count ≡ length (doings rows))) where
   abbrev old_frames : List FrameRows
   old_frames = front_frames closed ++ framed name rows ∷ []
@@ -94,7 +94,7 @@ module _ (stated : RomText) (closed : List Section) (head : Head) (name : Option
 
       by_frame_row : KeepsFrame head (rows ++ row ∷ []) (names ++ option_to_list row.name) now
           → KeepsNext stated closed head (rows ++ row ∷ []) held.next
-          → Keeps stated closed (part head (rows ++ row ∷ [])) of_frames of_rom_names (names ++ option_to_list row.name) now held
+          → KeepsAll stated closed (part head (rows ++ row ∷ [])) of_frames of_rom_names (names ++ option_to_list row.name) now held
       by_frame_row in_frame placed = record {
         starts = starts;
         limits = within_out is new_frames same_roms is_frames is_roms
@@ -138,9 +138,9 @@ more_kept rows row names count now e f counted =
 module _ (stated : RomText) (closed : List Section) (rows : List Row) (row : Row) (of_frames of_rom_names names : List (List ℕ))
     (count : ℕ) (held : RomArea) where
   pub frame_row : (head : Head) → IsFrameHead head
-      → Keeps stated closed (part head rows) of_frames of_rom_names names count held → IsFresh names row.name
+      → KeepsAll stated closed (part head rows) of_frames of_rom_names names count held → IsFresh names row.name
       → (now : ℕ) → IsCounted count row.doing now
-      → Keeps stated closed (part head (rows ++ row ∷ [])) of_frames of_rom_names (names ++ option_to_list row.name) now held
+      → KeepsAll stated closed (part head (rows ++ row ∷ [])) of_frames of_rom_names (names ++ option_to_list row.name) now held
   frame_row top head h fresh now counted =
       by_frame_row stated closed top None rows row of_frames of_rom_names names count held (λ rows. refl) (λ rows. refl) tt h
       h.frame fresh now counted (more_kept rows row names count now h.frame.0 h.frame.1 counted) tt
@@ -150,7 +150,7 @@ module _ (stated : RomText) (closed : List Section) (rows : List Row) (row : Row
   frame_row (rom address) head h fresh now counted = absurd head
 
   pub frame_full : (head : Head) → IsFrameHead head
-      → Keeps stated closed (part head rows) of_frames of_rom_names names count held → IsFresh names row.name
+      → KeepsAll stated closed (part head rows) of_frames of_rom_names names count held → IsFresh names row.name
       → (line : List ℕ) → IsRowLine row line → IsFull count row.doing
       → Breaks (λ now. GivesOnce now × (¬ DraftsFit now)) (sketch_of stated closed (part head rows)) line
   frame_full top head h fresh line spelled full =
@@ -162,7 +162,7 @@ module _ (stated : RomText) (closed : List Section) (rows : List Row) (row : Row
   frame_full (rom address) head h fresh line spelled full = absurd head
 
   pub frame_twice : (head : Head) → IsFrameHead head
-      → Keeps stated closed (part head rows) of_frames of_rom_names names count held → IsAgain names row.name
+      → KeepsAll stated closed (part head rows) of_frames of_rom_names names count held → IsAgain names row.name
       → (line : List ℕ) → IsRowLine row line
       → Breaks (λ now. ¬ GivesOnce now) (sketch_of stated closed (part head rows)) line
   frame_twice top head h again line spelled =
@@ -177,7 +177,7 @@ module _ (stated : RomText) (closed : List Section) (rows : List Row) (row : Row
 
 module _ (stated : RomText) (closed : List Section) (address : Option ℕ) (rows : List Row) (row : Row)
     (of_frames of_rom_names names : List (List ℕ)) (count : ℕ) (held : RomArea)
-    (h : Keeps stated closed (part (rom address) rows) of_frames of_rom_names names count held)
+    (h : KeepsAll stated closed (part (rom address) rows) of_frames of_rom_names names count held)
     (may : MayStand (rom address) row) where
   abbrev before : Spelled
   before = sketch_of stated closed (part (rom address) rows)
@@ -218,7 +218,7 @@ module _ (stated : RomText) (closed : List Section) (address : Option ℕ) (rows
   names_are : of_rom_names ≡ all_names old_roms
   names_are = h.roms ∙ ap all_names before_roms
 
-  goes_on : (line : List ℕ) → IsRowLine row line → Goes before line after
+  goes_on : (line : List ℕ) → IsRowLine row line → SketchTakes before line after
   goes_on line spelled = goes_row stated closed (part (rom address) rows) row line may spelled
 
   pub rom_twice : (line : List ℕ) → IsRowLine row line → IsAgain of_rom_names row.name
@@ -310,7 +310,7 @@ module _ (stated : RomText) (closed : List Section) (address : Option ℕ) (rows
       }
 
     pub rom_row : (new : RomArea) → Takes (size (row ∷ [])) held new
-        → Keeps stated closed (part (rom address) (rows ++ row ∷ [])) of_frames (of_rom_names ++ option_to_list row.name) names count new
+        → KeepsAll stated closed (part (rom address) (rows ++ row ∷ [])) of_frames (of_rom_names ++ option_to_list row.name) names count new
     rom_row new takes =
         let next = takes.next in
         let top = takes.high in

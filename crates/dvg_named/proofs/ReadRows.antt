@@ -22,8 +22,8 @@ use Rattle.dvg_named.specs.RowMoves.{IsCounted, IsFrameHead, IsFull, IsRomHead}
 use Rattle.dvg_rows.specs.Rows.{Head, IsRowLine, Row, frame, rom, top}
 use Rattle.dvg_rows.specs.RowValues.{row_of}
 use Rattle.dvg_named.specs.Sections.{MayStand, Spelled}
-use Rattle.dvg_named.specs.SketchReading.{Breaks, Keeps, Reads, ReadsMore, StopsSketch, closed_in, head_in, section_in, spelled_in}
-use Rattle.dvg_named.specs.SketchSteps.{Goes, with_row}
+use Rattle.dvg_named.specs.SketchReading.{Breaks, KeepsAll, Reads, ReadsMore, StopsSketch, closed_in, head_in, section_in, spelled_in}
+use Rattle.dvg_named.specs.SketchSteps.{SketchTakes, with_row}
 use Rattle.dvg_named.proofs.OneSketch.{head_is_no_row, one_row, tells_no_row}
 use Rattle.dvg_named.proofs.ReadCuts.{goes_row, nothing_goes}
 use Rattle.dvg_named.proofs.ReadMoves.{frame_full, frame_row, frame_twice, rom_out_of, rom_overlaps, rom_row, rom_twice}
@@ -70,14 +70,14 @@ module _ {A : Type 0} (old : Reading A) (row : held_row.Row) (stated : RomText) 
       reads.keeps fresh count counted in
       record {
         now = stated;
-        goes = subst (λ s. Goes (spelled_in stated old) line (sketch_of stated closed s)) (sym pushed)
+        goes = subst (λ s. SketchTakes (spelled_in stated old) line (sketch_of stated closed s)) (sym pushed)
             (goes_row stated closed (section_in old.last) (row_of row) line (frame_may (head_in old.last.head) (row_of row) head) spelled);
         reads = record {
           rom = reads.rom;
           keeps =
-              subst (λ s. Keeps stated closed s (bytes_of old.frame_names.given.keys) (bytes_of old.rom_names.given.keys) (bytes_of names.given.keys) count old.area)
+              subst (λ s. KeepsAll stated closed s (bytes_of old.frame_names.given.keys) (bytes_of old.rom_names.given.keys) (bytes_of names.given.keys) count old.area)
               (sym pushed)
-              (subst (λ l. Keeps stated closed (with_row (section_in old.last) (row_of row)) (bytes_of old.frame_names.given.keys) (bytes_of old.rom_names.given.keys) l count old.area)
+              (subst (λ l. KeepsAll stated closed (with_row (section_in old.last) (row_of row)) (bytes_of old.frame_names.given.keys) (bytes_of old.rom_names.given.keys) l count old.area)
               (sym given) kept);
         };
       }
@@ -113,20 +113,20 @@ module _ {A : Type 0} (old : Reading A) (row : held_row.Row) (stated : RomText) 
       let rows = rows_of old.last.rows.items in
       let kept = rom_row stated closed address rows (row_of row) (bytes_of old.frame_names.given.keys)
       (bytes_of old.rom_names.given.keys) (bytes_of old.names.given.keys) old.count old.area
-      (subst (λ head. Keeps stated closed (record { head = head; rows = rows }) (bytes_of old.frame_names.given.keys) (bytes_of old.rom_names.given.keys) (bytes_of old.names.given.keys) old.count old.area) (sym e) reads.keeps)
+      (subst (λ head. KeepsAll stated closed (record { head = head; rows = rows }) (bytes_of old.frame_names.given.keys) (bytes_of old.rom_names.given.keys) (bytes_of old.names.given.keys) old.count old.area) (sym e) reads.keeps)
       may fresh area takes in
       let is : section_in last ≡ record { head = rom address; rows = rows ++ row_of row ∷ [] } =
       pushed ∙ ap (λ head. with_row (record { head = head; rows = rows }) (row_of row)) (sym e) in
       record {
         now = stated;
-        goes = subst (λ s. Goes (spelled_in stated old) line (sketch_of stated closed s)) (sym pushed)
+        goes = subst (λ s. SketchTakes (spelled_in stated old) line (sketch_of stated closed s)) (sym pushed)
             (goes_row stated closed (section_in old.last) (row_of row) line (subst (λ head. MayStand head (row_of row)) e may) spelled);
         reads = record {
           rom = reads.rom;
           keeps =
-              subst (λ s. Keeps stated closed s (bytes_of old.frame_names.given.keys) (bytes_of names.given.keys) (bytes_of old.names.given.keys) old.count area)
+              subst (λ s. KeepsAll stated closed s (bytes_of old.frame_names.given.keys) (bytes_of names.given.keys) (bytes_of old.names.given.keys) old.count area)
               (sym is)
-              (subst (λ l. Keeps stated closed (record { head = rom address; rows = rows ++ row_of row ∷ [] }) (bytes_of old.frame_names.given.keys) l (bytes_of old.names.given.keys) old.count area)
+              (subst (λ l. KeepsAll stated closed (record { head = rom address; rows = rows ++ row_of row ∷ [] }) (bytes_of old.frame_names.given.keys) l (bytes_of old.names.given.keys) old.count area)
               (sym given) kept);
         };
       }
@@ -135,10 +135,10 @@ module _ {A : Type 0} (old : Reading A) (row : held_row.Row) (stated : RomText) 
     abbrev rows : List Row
     rows = rows_of old.last.rows.items
 
-    keeps : Keeps stated (closed_in old) (record { head = rom address; rows = rows }) (bytes_of old.frame_names.given.keys)
+    keeps : KeepsAll stated (closed_in old) (record { head = rom address; rows = rows }) (bytes_of old.frame_names.given.keys)
         (bytes_of old.rom_names.given.keys) (bytes_of old.names.given.keys) old.count old.area
     keeps =
-        subst (λ head. Keeps stated (closed_in old) (record { head = head; rows = rows }) (bytes_of old.frame_names.given.keys) (bytes_of old.rom_names.given.keys) (bytes_of old.names.given.keys) old.count old.area)
+        subst (λ head. KeepsAll stated (closed_in old) (record { head = head; rows = rows }) (bytes_of old.frame_names.given.keys) (bytes_of old.rom_names.given.keys) (bytes_of old.names.given.keys) old.count old.area)
         (sym e) reads.keeps
 
     abbrev as_rom : Spelled
@@ -188,7 +188,7 @@ module _ {A : Type 0} (old : Reading A) (row : held_row.Row) (stated : RomText) 
 
   -- a row that may not stand in the ROM
   pub rom_refused : IsRomHead (head_in old.last.head) → ¬ MayStand (rom None) (row_of row) → (now : Spelled)
-      → ¬ Goes (spelled_in stated old) line now
+      → ¬ SketchTakes (spelled_in stated old) line now
   rom_refused head none now =
       nothing_goes stated (closed_in old) (section_in old.last) line now reads.keeps.starts
       (λ bare empty rom tells. tells_no_row tells spelled)

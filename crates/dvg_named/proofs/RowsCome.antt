@@ -3,7 +3,7 @@ use Rattle.std.proofs.Common.{◌≡◌, ◌⊎◌, ◌∙◌, ℕ, zero, suc, i
 use Rattle.dvg_read.specs.Texts.{unpassed}
 use Rattle.dvg_rows.specs.Rows.{IsRowLine, Row}
 use Rattle.dvg_named.specs.Sections.{Section, Spelled, SpellsSketch, sections}
-use Rattle.dvg_named.specs.SketchSteps.{Goes, adds, begins, begun, tells, tops, with_row}
+use Rattle.dvg_named.specs.SketchSteps.{SketchTakes, adds, begins, begun, tells, tops, with_row}
 use Rattle.dvg_named.proofs.RowsStay.{HasAt, HasRow, at_top}
 
 -- ---- a row of a section with a row more
@@ -88,7 +88,7 @@ spelled_row s t l place last row next is e (inl h) = inl h
 spelled_row s t l place last row next is e (inr (at, same)) =
     inr (at ∙ e, subst (λ row. IsRowLine row l) (sym same) is)
 
-pub comes : (s t : Spelled) (l : List ℕ) (place : ℕ) (row : Row) → Goes s l t → HasAt (sections t) place row
+pub comes : (s t : Spelled) (l : List ℕ) (place : ℕ) (row : Row) → SketchTakes s l t → HasAt (sections t) place row
     → Comes s t l place row
 comes s t l place row (tells g) h = inl h
 comes s t l place row (tops {first = first} next is) h =

@@ -4,7 +4,7 @@ use Rattle.dvg_read.specs.Texts.{parts}
 use Rattle.dvg_read.proofs.Steps.{Leads, here, on}
 use Rattle.dvg_rows.specs.Rows.{IsRowLine, Row, top}
 use Rattle.dvg_named.specs.Sections.{Section, Spelled, SpellsSketch, sections}
-use Rattle.dvg_named.specs.SketchSteps.{Goes, adds, begins, begun, tells, tops, with_row}
+use Rattle.dvg_named.specs.SketchSteps.{SketchTakes, adds, begins, begun, tells, tops, with_row}
 use Rattle.dvg_named.proofs.OneSketch.{front_spells, head_is_no_row, one_row, tells_no_row}
 
 -- the row is one of these
@@ -64,7 +64,7 @@ last_stays (first ∷ front) last next (suc place) row h =
 abbrev pub at_top : List Row → Section
 at_top rows = record { head = top; rows = rows }
 
-stays_by : (s t : Spelled) (l : List ℕ) (place : ℕ) (row : Row) → Goes s l t → HasAt (sections s) place row
+stays_by : (s t : Spelled) (l : List ℕ) (place : ℕ) (row : Row) → SketchTakes s l t → HasAt (sections s) place row
     → HasAt (sections t) place row
 stays_by s t l place row (tells g) h = h
 stays_by s t l place row (tops {first = first} next is) h = last_stays [] (at_top first) next place row h
@@ -75,7 +75,7 @@ stays_by s t l place row (begins {first = first} {others = others} head is) h =
     section_stays (at_top first ∷ others) (begun head) place row h
 
 -- a row that stands in a section stays there, once more lines are read
-pub stands_after : (s t : Spelled) (ls : List (List ℕ)) (place : ℕ) (row : Row) → Leads Goes s ls t
+pub stands_after : (s t : Spelled) (ls : List (List ℕ)) (place : ℕ) (row : Row) → Leads SketchTakes s ls t
     → HasAt (sections s) place row → HasAt (sections t) place row
 stands_after s t [] place row here h = h
 stands_after s t (l ∷ ls) place row (on {t = mid} g p) h =
@@ -99,7 +99,7 @@ added first before section row =
       inside = last_row section.rows row;
     }
 
-stands_last : (s t : Spelled) (l : List ℕ) (row : Row) → Goes s l t → IsRowLine row l
+stands_last : (s t : Spelled) (l : List ℕ) (row : Row) → SketchTakes s l t → IsRowLine row l
     → HasAt (sections t) (length t.others) row
 stands_last s t l row (tells g) is = absurd (tells_no_row g is)
 stands_last s t l row (tops {first = first} other also) is =
@@ -115,7 +115,7 @@ stands_last s t l row (adds {first = first} before section other e may also) is 
     same (added first before section other)
 stands_last s t l row (begins head h) is = absurd (head_is_no_row h is)
 
-only_line : (s t : Spelled) (l : List ℕ) → Leads Goes s (l ∷ []) t → Goes s l t
+only_line : (s t : Spelled) (l : List ℕ) → Leads SketchTakes s (l ∷ []) t → SketchTakes s l t
 only_line s t l (on g here) = g
 
 -- where lines spell a sketch up to the line of a row, the row is in its last section

@@ -18,7 +18,7 @@ use Rattle.dvg_rows.specs.PlainLines.{plain, tokens}
 use Rattle.dvg_named.specs.ReadParts.{sketch_of}
 use Rattle.dvg_named.specs.Sections.{Section, Spelled, SpellsSketch}
 use Rattle.dvg_named.specs.SketchReading.{Breaks, IsBare, Reads, ReadsMore, StopsSketch, closed_in, section_in, spelled_in}
-use Rattle.dvg_named.specs.SketchSteps.{AreParts, Goes, line_of}
+use Rattle.dvg_named.specs.SketchSteps.{AreParts, SketchTakes, line_of}
 use Rattle.dvg_rows.specs.declared.source.Source.{Source}
 use Rattle.dvg_named.specs.SourcedRows.{AreSourced, IsLineAt}
 use Rattle.dvg_named.specs.LineNumbers.{AreNumbered, Numbers, adds, entries_in, head_at_top, keeps}
@@ -151,7 +151,7 @@ module _ {A : Type 0} (text : List ℕ) (left rest : List (List ℕ)) (n : ℕ) 
         breaks = b.breaks;
       }
 
-      nothing_at : ((now : Spelled) → ¬ Goes (spelled_in r.rom reading) (plain line) now) → MeetsNothing whole (n + 1)
+      nothing_at : ((now : Spelled) → ¬ SketchTakes (spelled_in r.rom reading) (plain line) now) → MeetsNothing whole (n + 1)
       nothing_at none = record {
         before = map plain r.before;
         line = plain line;

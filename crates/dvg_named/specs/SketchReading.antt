@@ -15,7 +15,7 @@ use Rattle.dvg_named.specs.ReadParts.{KeepsArea, KeepsFrame, KeepsNext, StartsAt
 use Rattle.dvg_rows.specs.RowValues.{head_of}
 use Rattle.dvg_rows.specs.Rows.{Head, top}
 use Rattle.dvg_named.specs.Sections.{Section, Spelled, rom_sections}
-use Rattle.dvg_named.specs.SketchSteps.{Goes, begun}
+use Rattle.dvg_named.specs.SketchSteps.{SketchTakes, begun}
 use Rattle.dvg_named.specs.StatedRoms.{HoldsStated}
 
 -- how a section begins: that at the top has no line that begins it
@@ -28,7 +28,7 @@ abbrev pub section_in : {A : Type 0} → Part A → Section
 section_in part = record { head = head_in part.head; rows = rows_of part.rows.items }
 
 -- a sketch within the limits, cut so, and what is kept of it
-pub record Keeps (stated : RomText) (closed : List Section) (last : Section) (of_frames of_rom names : List (List ℕ))
+pub record KeepsAll (stated : RomText) (closed : List Section) (last : Section) (of_frames of_rom names : List (List ℕ))
     (count : ℕ) (held : RomArea) : Type 0 where
   pub starts : StartsAtTop closed last
   pub limits : KeepsLimits (sketch_of stated closed last)
@@ -49,24 +49,24 @@ spelled_in stated reading = sketch_of stated (closed_in reading) (section_in rea
 -- the reader holds what lines spell, within the limits
 pub record Reads {A : Type 0} (stated : RomText) (reading : Reading A) : Type 0 where
   pub rom : HoldsStated stated reading.rom
-  pub keeps : Keeps stated (closed_in reading) (section_in reading.last) (bytes_of reading.frame_names.given.keys)
+  pub keeps : KeepsAll stated (closed_in reading) (section_in reading.last) (bytes_of reading.frame_names.given.keys)
       (bytes_of reading.rom_names.given.keys) (bytes_of reading.names.given.keys) reading.count reading.area
 
 -- a line more was read: what is spelled goes on, within the limits
 pub record ReadsMore {A : Type 0} (stated : RomText) (old : Reading A) (line : List ℕ) (new : Reading A) : Type 0 where
   pub now : RomText
-  pub goes : Goes (spelled_in stated old) line (spelled_in now new)
+  pub goes : SketchTakes (spelled_in stated old) line (spelled_in now new)
   pub reads : Reads now new
 
 -- with the line more a sketch is spelled that breaks a limit in this way
 pub record Breaks (limit : Spelled → Type 0) (sketch : Spelled) (line : List ℕ) : Type 0 where
   pub now : Spelled
-  pub goes : Goes sketch line now
+  pub goes : SketchTakes sketch line now
   pub breaks : limit now
 
 -- why a line more isn't taken
 abbrev pub StopsSketch : LineFault → Spelled → List ℕ → Type 0
-StopsSketch Syntax sketch line = (now : Spelled) → ¬ Goes sketch line now
+StopsSketch Syntax sketch line = (now : Spelled) → ¬ SketchTakes sketch line now
 StopsSketch NameGivenAgain sketch line = Breaks (λ now. ¬ GivesOnce now) sketch line
 StopsSketch Full sketch line = Breaks (λ now. GivesOnce now × (¬ DraftsFit now)) sketch line
 StopsSketch OutOfRom sketch line = Breaks (λ now. GivesOnce now × DraftsFit now × (¬ RomFits now)) sketch line

@@ -20,17 +20,18 @@ abbrev pub begun : Head → Section
 begun head = record { head = head; rows = [] }
 
 -- what a line more makes of it
-pub data Goes : Spelled → List ℕ → Spelled → Type 0 where
-  tells : {rom now : RomText} {line : List ℕ} → TellsRom rom line now → Goes (so_far rom [] []) line (so_far now [] [])
+pub data SketchTakes : Spelled → List ℕ → Spelled → Type 0 where
+  tells : {rom now : RomText} {line : List ℕ} → TellsRom rom line now
+      → SketchTakes (so_far rom [] []) line (so_far now [] [])
   tops : {rom : RomText} {first : List Row} {line : List ℕ} (row : Row) → IsRowLine row line
-      → Goes (so_far rom first []) line (so_far rom (first ++ row ∷ []) [])
+      → SketchTakes (so_far rom first []) line (so_far rom (first ++ row ∷ []) [])
   adds : {rom : RomText} {first : List Row} {others : List Section} {line : List ℕ} (before : List Section)
       (section : Section)
       (row : Row) → others ≡ before ++ section ∷ [] → MayStand section.head row → IsRowLine row line
-      → Goes (so_far rom first others) line (so_far rom first (before ++ with_row section row ∷ []))
+      → SketchTakes (so_far rom first others) line (so_far rom first (before ++ with_row section row ∷ []))
   begins : {rom : RomText} {first : List Row} {others : List Section} {line : List ℕ} (head : Head)
       → IsHeadLine head line
-      → Goes (so_far rom first others) line (so_far rom first (others ++ begun head ∷ []))
+      → SketchTakes (so_far rom first others) line (so_far rom first (others ++ begun head ∷ []))
 
 -- the line of these tokens, as a plain draft has it
 abbrev pub line_of : List (List ℕ) → List ℕ

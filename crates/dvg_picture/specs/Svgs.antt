@@ -19,7 +19,7 @@ abbrev pub run_svg : (percent : ℕ) → Option Undrawn → List Stroke → List
 run_svg percent undrawn drew = svg_text percent (option_map reason_text undrawn) drew
 
 -- the input is a dump, whose run draws these strokes until it ends so
-pub record IsDrawn (input : List ℕ) (drew : List Stroke) (undrawn : Option Undrawn) : Type 0 where
+pub record DrawsDump (input : List ℕ) (drew : List Stroke) (undrawn : Option Undrawn) : Type 0 where
   pub size : HasDumpSize input
   pub visits : List Visit
   pub end : End
@@ -33,10 +33,10 @@ abbrev pub DrawsSvg : (percent : ℕ) → Result (Option Undrawn) ToolFault → 
     → Option (List ℕ)
     → Type 0
 DrawsSvg percent (Ok undrawn) input old new =
-    (drew : List Stroke) × IsDrawn input drew undrawn × Appends old new (run_svg percent undrawn drew)
+    (drew : List Stroke) × DrawsDump input drew undrawn × Appends old new (run_svg percent undrawn drew)
 DrawsSvg percent (Err (Text fault)) input old new = HasDumpFault input fault
 DrawsSvg percent (Err Writer) input old new = (drew : List Stroke) × (undrawn : Option Undrawn)
-    × IsDrawn input drew undrawn × BeginsToWrite (run_svg percent undrawn drew) old new
+    × DrawsDump input drew undrawn × BeginsToWrite (run_svg percent undrawn drew) old new
 DrawsSvg percent _ input old new = Unit {0}
 
 -- the strokes that are recorded of instructions (for a private contract)

@@ -4,7 +4,7 @@ ghost use Rattle.dvg_io.specs.Faults.{ComesBeforeText};
 ghost use Rattle.dvg_io.specs.Serving.{AreFresh, Serves};
 ghost use Rattle.dvg_io.specs.Watching.{Writes};
 ghost use Rattle.dvg_picture.specs.Pictures.{HasDumpFault, IsDumpFault};
-ghost use Rattle.dvg_picture.specs.Svgs.{DrawsSvg, IsDrawn, run_svg, strokes_of};
+ghost use Rattle.dvg_picture.specs.Svgs.{DrawsDump, DrawsSvg, run_svg, strokes_of};
 ghost use Rattle.dvg_dump.specs.declared.dump.TheConstants.{LARGE_DUMP_BYTES};
 
 use crate::engine::run_dump;
@@ -41,7 +41,7 @@ fn collect_strokes<A: Allocator>(alloc: A, trace: &[Ran]) -> Result<Vec<Stroke, 
 
 // Returns what the run over the dump `bytes` draws.
 fn draw_dump<A: Allocator + Copy>(alloc: A, bytes: &[u8]) -> Result<DumpPicture<A>, Unread>
-    ensures drawn { IfOk result (λ drawn. IsDrawn bytes.now drawn.strokes.items drawn.undrawn) }
+    ensures drawn { IfOk result (λ drawn. DrawsDump bytes.now drawn.strokes.items drawn.undrawn) }
     ensures fault { IfErr result (IsDumpFault bytes.now) }
 {
     let run = run_dump(alloc, bytes, true)?;
@@ -88,7 +88,7 @@ impl<A: Allocator + Copy> Engine<A> for DumpSvgEngine {
 
     ghost MOST = { LARGE_DUMP_BYTES };
 
-    ghost Finds = { λ engine input drawn. IsDrawn input drawn.strokes.items drawn.undrawn };
+    ghost Finds = { λ engine input drawn. DrawsDump input drawn.strokes.items drawn.undrawn };
 
     ghost HasFault = { λ engine. HasDumpFault };
 

@@ -11,7 +11,7 @@ use Rattle.dvg_driver.specs.declared.action.Action.{Action}
 use Rattle.dvg_driver.specs.declared.action.Action.TheVariants.{Peek, Wrote, Read}
 use Rattle.dvg_driver.specs.Script.{Did, frame_writes}
 use Rattle.dvg_driver.specs.Place.{Place, Start, Booting, Resting, Writing, Waiting, Sending, next_place, place_of_life, with_left}
-use Rattle.dvg_driver.specs.Stands.{Tells}
+use Rattle.dvg_driver.specs.Stands.{ShowsFlag}
 use Rattle.dvg_driver.proofs.OneAction.{one_action}
 use Rattle.dvg_driver.proofs.Shapes.{place_life}
 use Rattle.dvg_log.specs.declared.event.Event.TheVariants.{Tick}
@@ -105,7 +105,7 @@ start_next Peek to next = sym (same_Some _ _ next)
 start_next _ to next = absurd (cc)
 
 booting_next : (action : Action) (to : Place) (halted : Bool)
-    → next_place Booting (Did action) ≡ Some to → Tells action halted → to ≡ (if halted then Resting true else Booting)
+    → next_place Booting (Did action) ≡ Some to → ShowsFlag action halted → to ≡ (if halted then Resting true else Booting)
 booting_next (Read shown) to halted next tells = sym (same_Some _ _ next)
     ∙ ap (λ h. if h then Resting true else Booting) tells
 booting_next _ to halted next tells = absurd (cc)
@@ -125,7 +125,7 @@ module _ (R image : List ℕ) where
     to : Place
     next : next_place place (Did action) ≡ Some to
     stands : place_of_life (life image ((Tick ⟼ Acted action) ∷ log)) ≡ Some to
-    tells : Tells action (is_none (open_run log))
+    tells : ShowsFlag action (is_none (open_run log))
 
   next_tick : (log : Log) (place : Place) → IsLegal R image log
       → place_of_life (life image log) ≡ Some place → Next log place
@@ -139,7 +139,7 @@ module _ (R image : List ℕ) where
         to = t.to;
         next = subst (λ action. next_place place (Did action) ≡ Some t.to) same t.next;
         stands = subst (λ action. place_of_life (Did action ∷ life image log) ≡ Some t.to) same t.stands;
-        tells = subst (λ action. Tells action (is_none (open_run log))) same t.tells;
+        tells = subst (λ action. ShowsFlag action (is_none (open_run log))) same t.tells;
       }
 
   rests_now : (log : Log) (first : Bool) (most : ℕ) → IsLegal R image log

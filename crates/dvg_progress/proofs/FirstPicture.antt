@@ -12,7 +12,7 @@ use Rattle.dvg_driver.specs.declared.action.Action.{Action}
 use Rattle.dvg_driver.specs.declared.action.Action.TheVariants.{Peek, Wrote, Read, Sent}
 use Rattle.dvg_driver.specs.Script.{Did}
 use Rattle.dvg_driver.specs.Place.{Place, place_of_life}
-use Rattle.dvg_driver.specs.Stands.{Tells}
+use Rattle.dvg_driver.specs.Stands.{ShowsFlag}
 use Rattle.dvg_driver.proofs.Shapes.{place_life}
 use Rattle.dvg_log.specs.declared.event.Event.TheVariants.{Offer, Tick, Strobe, Fetch, ResetGen, ResetCpu}
 use Rattle.dvg_log.specs.Entries.{Shown}
@@ -179,6 +179,6 @@ is_unstuck =
 
 -- one more tick
 pub did_more : (log : Log) (action : Action) (to : Place) → IsLegal zeros zeros log
-    → place_of_life (Did action ∷ life zeros log) ≡ Some to → Tells action (is_none (open_run log))
+    → place_of_life (Did action ∷ life zeros log) ≡ Some to → ShowsFlag action (is_none (open_run log))
     → IsLegal zeros zeros ((Tick ⟼ Acted action) ∷ log)
 did_more log action to l stands tells = ((place_life (Did action ∷ life zeros log) to stands, tells), tt, l)

@@ -4,7 +4,7 @@ use Rattle.std.specs.Prelude.{is_none}
 use Rattle.dvg_driver.specs.declared.action.Action.{Action}
 use Rattle.dvg_driver.specs.Script.{Did, IsWhole}
 use Rattle.dvg_driver.specs.Place.{Place, Resting, next_place, place_of_life}
-use Rattle.dvg_driver.specs.Stands.{Tells}
+use Rattle.dvg_driver.specs.Stands.{ShowsFlag}
 use Rattle.dvg_driver.proofs.Places.{whole_rests, life_place, place_before}
 use Rattle.dvg_log.specs.Events.{Happening}
 use Rattle.dvg_log.specs.declared.event.Event.TheVariants.{Offer, Redraw, Tick, Strobe, Fetch, ResetGen, ResetCpu, ResetAll}
@@ -120,7 +120,7 @@ pub record Ticked (image : List ℕ) (log : Log) (entry : Shown) (place : Place)
   pub to : Place
   pub next : next_place place (Did action) ≡ Some to
   pub stands : place_of_life (Did action ∷ life image log) ≡ Some to
-  pub tells : Tells action (is_none (open_run log))
+  pub tells : ShowsFlag action (is_none (open_run log))
 
 pub ticked : (R image : List ℕ) (log : Log) (entry : Shown) (place : Place)
     → IsLegal R image ((Tick ⟼ entry) ∷ log) → place_of_life (life image log) ≡ Some place

@@ -20,7 +20,7 @@ use Rattle.dvg_frame.specs.Faults.{Accepts}
 use Rattle.dvg_driver.specs.declared.action.Action.{Action}
 use Rattle.dvg_driver.specs.declared.action.Action.TheVariants.{Wrote, Read, Sent}
 use Rattle.dvg_driver.specs.Place.{Place as Point, place_of_life}
-use Rattle.dvg_driver.specs.Stands.{Tells}
+use Rattle.dvg_driver.specs.Stands.{ShowsFlag}
 use Rattle.dvg_driver.proofs.Shapes.{rests_whole}
 use Rattle.dvg_log.specs.declared.event.Event.TheVariants.{Offer, Strobe, Fetch, ResetGen, ResetCpu}
 use Rattle.dvg_log.specs.declared.entry.Entry.TheVariants.{Offered, Started, Low, Done}
@@ -119,7 +119,7 @@ abbrev May : List Action → Log → Type 0
 May [] log = Unit {0}
 May (action ∷ actions) log =
     (to : Point) × (place_of_life (life zeros (did (action ∷ actions) ++ log)) ≡ Some to)
-    × Tells action (is_none (open_run (did actions ++ log))) × May actions log
+    × ShowsFlag action (is_none (open_run (did actions ++ log))) × May actions log
 
 acts : (actions : List Action) (log : Log) → IsLegal zeros zeros log → May actions log
     → IsLegal zeros zeros (did actions ++ log)

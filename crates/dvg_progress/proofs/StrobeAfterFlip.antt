@@ -7,7 +7,7 @@ use Rattle.dvg_driver.specs.declared.action.Action.{Action}
 use Rattle.dvg_driver.specs.declared.action.Action.TheVariants.{Wrote, Read, Sent}
 use Rattle.dvg_driver.specs.Script.{Did}
 use Rattle.dvg_driver.specs.Place.{Place, Resting, Writing, Waiting, Sending, next_place, place_of_life}
-use Rattle.dvg_driver.specs.Stands.{Tells}
+use Rattle.dvg_driver.specs.Stands.{ShowsFlag}
 use Rattle.dvg_log.specs.Events.{Happening}
 use Rattle.dvg_log.specs.declared.event.Event.TheVariants.{Tick, ResetCpu}
 use Rattle.dvg_log.specs.Entries.{Shown}
@@ -57,7 +57,7 @@ sending_busy first other is = cc
 
 -- what the next action is where the driver waits, and where it sends
 pub waiting_next : (first : Bool) (action : Action) (to : Place) (halted : Bool)
-    → next_place (Waiting first) (Did action) ≡ Some to → Tells action halted
+    → next_place (Waiting first) (Did action) ≡ Some to → ShowsFlag action halted
     → (action ≡ Read halted) × (to ≡ (if halted then Sending first else Waiting first))
 waiting_next first (Read shown) to halted next tells = (
   ap Read tells,

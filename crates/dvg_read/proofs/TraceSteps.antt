@@ -11,7 +11,7 @@ use Rattle.dvg_read.specs.OpLines.{IsOpLine}
 use Rattle.dvg_read.specs.RomTexts.{RomText, unmapped}
 use Rattle.dvg_read.specs.RomReading.{TellsRom, unstated}
 use Rattle.dvg_read.specs.TraceTexts.{Begun, EventParts, FitsTrace, FitsDraft, IsFineTrace, SpellsTrace, Whole, alone, inside, nothing, offer, whole}
-use Rattle.dvg_read.specs.TraceReading.{Goes, SoFar, Takes, does, ends, events, opens, tells}
+use Rattle.dvg_read.specs.TraceReading.{SoFar, Takes, TraceTakes, does, ends, events, opens, tells}
 use Rattle.dvg_read.proofs.OneOperation.{one_operation}
 use Rattle.dvg_read.proofs.RomSteps.{one_stated, rom_leads, stated_by_name, tells_more}
 use Rattle.dvg_read.proofs.Steps.{Leads, front_says, further, here, last_line, on, one_saying}
@@ -101,45 +101,45 @@ says_nothing = record { front = []; rest = []; cut = refl; head = unmapped tt; b
 
 -- all lines in turn
 
-head_leads : (rom now : RomText) (ls : List (List ℕ)) → Leads TellsRom rom ls now → Leads Goes (so_far rom [] None) ls (so_far now [] None)
+head_leads : (rom now : RomText) (ls : List (List ℕ)) → Leads TellsRom rom ls now → Leads TraceTakes (so_far rom [] None) ls (so_far now [] None)
 head_leads rom now [] here = here
 head_leads rom now (l ∷ ls) (on {t = mid} g p) =
-    let first : Goes (so_far rom [] None) l (so_far mid [] None) = tells g in
+    let first : TraceTakes (so_far rom [] None) l (so_far mid [] None) = tells g in
     on first (head_leads mid now ls p)
 
-ops_lead : (rom : RomText) (old : List Happening) (F G : List OpKind) (ops : List (List ℕ)) → AllZip IsOpLine G ops → Leads Goes (so_far rom old (Some F)) ops (so_far rom old (Some (F ++ G)))
-ops_lead rom old F [] [] h = subst (λ k. Leads Goes (so_far rom old (Some F)) [] (so_far rom old (Some k))) (sym (append-nil F)) here
+ops_lead : (rom : RomText) (old : List Happening) (F G : List OpKind) (ops : List (List ℕ)) → AllZip IsOpLine G ops → Leads TraceTakes (so_far rom old (Some F)) ops (so_far rom old (Some (F ++ G)))
+ops_lead rom old F [] [] h = subst (λ k. Leads TraceTakes (so_far rom old (Some F)) [] (so_far rom old (Some k))) (sym (append-nil F)) here
 ops_lead rom old F [] (l ∷ ops) h = absurd h
 ops_lead rom old F (op ∷ G) [] h = absurd h
 ops_lead rom old F (op ∷ G) (l ∷ ops) h =
-    let first : Goes (so_far rom old (Some F)) l (so_far rom old (Some (F ++ op ∷ []))) = does op h.0 in
+    let first : TraceTakes (so_far rom old (Some F)) l (so_far rom old (Some (F ++ op ∷ []))) = does op h.0 in
     let rest = ops_lead rom old (F ++ op ∷ []) G ops h.1 in
-    on first (subst (λ k. Leads Goes (so_far rom old (Some (F ++ op ∷ []))) ops (so_far rom old (Some k))) (append_assoc F (op ∷ []) G) rest)
+    on first (subst (λ k. Leads TraceTakes (so_far rom old (Some (F ++ op ∷ []))) ops (so_far rom old (Some k))) (append_assoc F (op ∷ []) G) rest)
 
-offer_leads : (rom : RomText) (old : List Happening) (F : List OpKind) (ops : List (List ℕ)) → AllZip IsOpLine F ops → Leads Goes (so_far rom old None) (codes "offer" ∷ ops) (so_far rom old (Some F))
+offer_leads : (rom : RomText) (old : List Happening) (F : List OpKind) (ops : List (List ℕ)) → AllZip IsOpLine F ops → Leads TraceTakes (so_far rom old None) (codes "offer" ∷ ops) (so_far rom old (Some F))
 offer_leads rom old F ops h =
-    let first : Goes (so_far rom old None) (codes "offer") (so_far rom old (Some [])) = opens in
+    let first : TraceTakes (so_far rom old None) (codes "offer") (so_far rom old (Some [])) = opens in
     on first (ops_lead rom old [] F ops h)
 
-whole_leads : (rom : RomText) {old : List Happening} {ls : List (List ℕ)} → Whole old ls → Leads Goes (so_far rom [] None) ls (so_far rom old None)
+whole_leads : (rom : RomText) {old : List Happening} {ls : List (List ℕ)} → Whole old ls → Leads TraceTakes (so_far rom [] None) ls (so_far rom old None)
 whole_leads rom nothing = here
 whole_leads rom (alone {events = old} {more = more} {ls = ls} l w p) =
-    let last : Goes (so_far rom old None) l (so_far rom (old ++ more) None) = events p in
-    further Goes _ _ _ ls (l ∷ []) (whole_leads rom w) (on last here)
+    let last : TraceTakes (so_far rom old None) l (so_far rom (old ++ more) None) = events p in
+    further TraceTakes _ _ _ ls (l ∷ []) (whole_leads rom w) (on last here)
 whole_leads rom (offer {events = old} {ls = ls} F ops w all) =
-    let last : Goes (so_far rom old (Some F)) (codes "end") (so_far rom (old ++ Offer F ∷ []) None) = ends in
-    let opened : Leads Goes (so_far rom [] None) (ls ++ codes "offer" ∷ ops) (so_far rom old (Some F)) = further Goes _ _ _ ls (codes "offer" ∷ ops) (whole_leads rom w) (offer_leads rom old F ops all) in
-    further Goes _ _ _ (ls ++ codes "offer" ∷ ops) (codes "end" ∷ []) opened (on last here)
+    let last : TraceTakes (so_far rom old (Some F)) (codes "end") (so_far rom (old ++ Offer F ∷ []) None) = ends in
+    let opened : Leads TraceTakes (so_far rom [] None) (ls ++ codes "offer" ∷ ops) (so_far rom old (Some F)) = further TraceTakes _ _ _ ls (codes "offer" ∷ ops) (whole_leads rom w) (offer_leads rom old F ops all) in
+    further TraceTakes _ _ _ (ls ++ codes "offer" ∷ ops) (codes "end" ∷ []) opened (on last here)
 
-begun_leads : (rom : RomText) {old : List Happening} {opened : Option (List OpKind)} {ls : List (List ℕ)} → Begun old opened ls → Leads Goes (so_far rom [] None) ls (so_far rom old opened)
+begun_leads : (rom : RomText) {old : List Happening} {opened : Option (List OpKind)} {ls : List (List ℕ)} → Begun old opened ls → Leads TraceTakes (so_far rom [] None) ls (so_far rom old opened)
 begun_leads rom (whole w) = whole_leads rom w
-begun_leads rom (inside {events = old} {ls = ls} F ops w all) = further Goes _ _ _ ls (codes "offer" ∷ ops) (whole_leads rom w) (offer_leads rom old F ops all)
+begun_leads rom (inside {events = old} {ls = ls} F ops w all) = further TraceTakes _ _ _ ls (codes "offer" ∷ ops) (whole_leads rom w) (offer_leads rom old F ops all)
 
 -- what lines spell, they lead to
-leads_to : (s : SoFar) (ls : List (List ℕ)) → Says s ls → Leads Goes start ls s
+leads_to : (s : SoFar) (ls : List (List ℕ)) → Says s ls → Leads TraceTakes start ls s
 leads_to s ls p =
     let head = head_leads unstated s.rom p.front (rom_leads p.head) in
-    subst (λ k. Leads Goes start k s) (sym p.cut) (further Goes start (so_far s.rom [] None) s p.front p.rest head (begun_leads s.rom p.begun))
+    subst (λ k. Leads TraceTakes start k s) (sym p.cut) (further TraceTakes start (so_far s.rom [] None) s p.front p.rest head (begun_leads s.rom p.begun))
 
 -- no line goes on in two ways
 
@@ -183,20 +183,20 @@ one_way (does op h) ends = absurd (end_is_no_op op h)
 one_way ends (does op h) = absurd (end_is_no_op op h)
 one_way ends ends = refl
 
-same_way : (s t u : SoFar) (l : List ℕ) → Goes s l t → Goes s l u → u ≡ t
+same_way : (s t u : SoFar) (l : List ℕ) → TraceTakes s l t → TraceTakes s l u → u ≡ t
 same_way s t u l g h = one_way g h
 
-more_said : (s t : SoFar) (l : List ℕ) (ls : List (List ℕ)) → Says s ls → Goes s l t → Says t (ls ++ l ∷ [])
+more_said : (s t : SoFar) (l : List ℕ) (ls : List (List ℕ)) → Says s ls → TraceTakes s l t → Says t (ls ++ l ∷ [])
 more_said s t l ls p g = says_more p g
 
 -- a line that goes on from what others spell
-pub goes_on : (s t : SoFar) (ls : List (List ℕ)) (l : List ℕ) → Says s ls → Says t (ls ++ l ∷ []) → Goes s l t
-goes_on = last_line Goes same_way Says start says_nothing more_said leads_to
+pub goes_on : (s t : SoFar) (ls : List (List ℕ)) (l : List ℕ) → Says s ls → Says t (ls ++ l ∷ []) → TraceTakes s l t
+goes_on = last_line TraceTakes same_way Says start says_nothing more_said leads_to
 
 pub one_spelled_trace : {rom also : RomText} {one other : List Happening} {opened left : Option (List OpKind)} {ls : List (List ℕ)}
     → SpellsTrace rom one opened ls → SpellsTrace also other left ls → (also ≡ rom) × (other ≡ one) × (left ≡ opened)
 one_spelled_trace {rom} {also} {one} {other} {opened} {left} {ls} p q =
-    let same = one_saying Goes same_way Says start says_nothing more_said leads_to (so_far rom one opened) (so_far also other left) ls p q in
+    let same = one_saying TraceTakes same_way Says start says_nothing more_said leads_to (so_far rom one opened) (so_far also other left) ls p q in
     (ap (λ s. s.rom) same, ap (λ s. s.events) same, ap (λ s. s.opened) same)
 
 -- what fits
@@ -216,7 +216,7 @@ fits_before (ends {old = old} {F = F}) f =
     let count = f.count in
     record { count = omega (arith, length-append old (Offer F ∷ [])); drafts = all_front FitsDraft old (Offer F ∷ []) f.drafts; last = all_last FitsDraft old (Offer F) f.drafts }
 
-fits_along : (s t : SoFar) (ls : List (List ℕ)) → Leads Goes s ls t → FitsTrace t.events t.opened → FitsTrace s.events s.opened
+fits_along : (s t : SoFar) (ls : List (List ℕ)) → Leads TraceTakes s ls t → FitsTrace t.events t.opened → FitsTrace s.events s.opened
 fits_along s t [] here f = f
 fits_along s t (l ∷ ls) (on {t = mid} g p) f = fits_before g (fits_along mid t ls p f)
 
@@ -224,5 +224,5 @@ fits_along s t (l ∷ ls) (on {t = mid} g p) f = fits_before g (fits_along mid t
 pub fine_front : (ls more : List (List ℕ)) → IsFineTrace (ls ++ more) → IsFineTrace ls
 fine_front ls more h =
     let all = so_far h.rom h.events h.opened in
-    let (mid, says, leads) = front_says Goes same_way Says start says_nothing more_said leads_to all ls more h.spelled in
+    let (mid, says, leads) = front_says TraceTakes same_way Says start says_nothing more_said leads_to all ls more h.spelled in
     record { rom = mid.rom; events = mid.events; opened = mid.opened; spelled = says; fits = fits_along mid all more leads h.fits }

@@ -28,5 +28,5 @@ pub data Takes : RomText → List Happening → Option (List OpKind) → List �
       → Takes rom old (Some F) (codes "end") rom (old ++ Offer F ∷ []) None
 
 -- the same, of whole states
-abbrev pub Goes : SoFar → List ℕ → SoFar → Type 0
-Goes old line new = Takes old.rom old.events old.opened line new.rom new.events new.opened
+abbrev pub TraceTakes : SoFar → List ℕ → SoFar → Type 0
+TraceTakes old line new = Takes old.rom old.events old.opened line new.rom new.events new.opened

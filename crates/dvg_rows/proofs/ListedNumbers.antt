@@ -7,7 +7,7 @@ use Rattle.std.proofs.Math.Seq.{get_or-append_seam}
 use Rattle.std.specs.List.{AllZip, cons_option}
 use Rattle.dvg_rows.specs.declared.row.Row as held
 use Rattle.dvg_rows.specs.HeldRows.{rows_of}
-use Rattle.dvg_rows.specs.NameNumbers.{GoesOn, IsOther, number_kept}
+use Rattle.dvg_rows.specs.NameNumbers.{IsOther, PassesName, number_kept}
 use Rattle.dvg_rows.specs.RowPlaces.{IsNumber, doings, names_of}
 use Rattle.dvg_rows.specs.RowValues.{name_of, row_of}
 use Rattle.dvg_rows.specs.Rows.{Row}
@@ -46,7 +46,7 @@ take_next names i name e =
 
 -- where the name goes on those that were given, there are so many more of these
 pub goes_on : (given : List (List ℕ)) (place next : ℕ) (name : Option (List ℕ)) (before : List (List ℕ))
-    → GoesOn given place name next → before ≡ take place given → place ≡ length before
+    → PassesName given place name next → before ≡ take place given → place ≡ length before
     → (before ++ option_to_list name ≡ take next given) × (next ≡ length (before ++ option_to_list name))
     × (next ≤ place + 1)
 goes_on given place next None before h same count =

@@ -19,9 +19,9 @@ abbrev pub CountsLeast : {A : Type 0} → (List ℕ → ℕ → Type 0) → Name
 CountsLeast P numbers = (name : Bor (List ℕ)) → IsLeastFound (P name.now) (number_told numbers name)
 
 -- the place after a name, if there is one, that stands at this place of those that were given
-abbrev pub GoesOn : List (List ℕ) → (place : ℕ) → Option (List ℕ) → (next : ℕ) → Type 0
-GoesOn given place None next = next ≡ place
-GoesOn given place (Some name) next = (slice_get given place ≡ Some name) × (next ≡ place + 1)
+abbrev pub PassesName : List (List ℕ) → (place : ℕ) → Option (List ℕ) → (next : ℕ) → Type 0
+PassesName given place None next = next ≡ place
+PassesName given place (Some name) next = (slice_get given place ≡ Some name) × (next ≡ place + 1)
 
 -- another name than this one stands at the place, or none
 abbrev pub IsOther : List (List ℕ) → (place : ℕ) → Option (List ℕ) → Type 0

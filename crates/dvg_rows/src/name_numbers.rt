@@ -3,7 +3,7 @@ ghost use Rattle.std.specs.Prelude.{◌≡◌, ◌<◌, ◌^◌, ◌++◌, ◌�
 ghost use Rattle.std.specs.List.{AllZip};
 ghost use Rattle.dvg_read.specs.LineParts.{bytes_of};
 ghost use Rattle.dvg_rows.specs.HeldRows.{rows_of};
-ghost use Rattle.dvg_rows.specs.NameNumbers.{GoesOn, IsOther, number_kept};
+ghost use Rattle.dvg_rows.specs.NameNumbers.{IsOther, PassesName, number_kept};
 ghost use Rattle.dvg_rows.specs.RowPlaces.{AreDistinct, IsNumber, names_of};
 ghost use Rattle.dvg_rows.specs.RowValues.{name_of};
 
@@ -66,7 +66,7 @@ fn place_after<A: Allocator + Copy>(
 ) -> Option<usize>
     requires { place < 2 ^ 63 }
     ensures after { IfSome result
-        (GoesOn (bytes_of given.now.given.keys) place (name_of name.entry)) }
+        (PassesName (bytes_of given.now.given.keys) place (name_of name.entry)) }
     ensures other { IfNone result
         (IsOther (bytes_of given.now.given.keys) place (name_of name.entry)) }
 {

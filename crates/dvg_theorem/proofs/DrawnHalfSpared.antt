@@ -16,7 +16,7 @@ use Rattle.dvg_driver.specs.declared.action.Action.{Action}
 use Rattle.dvg_driver.specs.declared.action.Action.TheVariants.{Peek, Wrote, Read, Sent, Idle}
 use Rattle.dvg_driver.specs.Script
 use Rattle.dvg_driver.specs.Script.{Item, Did, IsWhole, IsLife, has_flip, frame_writes}
-use Rattle.dvg_driver.specs.Stands.{Tells}
+use Rattle.dvg_driver.specs.Stands.{ShowsFlag}
 use Rattle.dvg_driver.specs.Place.{Place, Start, Booting, Resting, Writing, Waiting, Sending, next_place, place_of_life}
 use Rattle.dvg_log.specs.Events.{Happening}
 use Rattle.dvg_log.specs.declared.event.Event.TheVariants.{Offer, Redraw, Tick, Strobe, Fetch, ResetGen, ResetCpu, ResetAll}
@@ -197,7 +197,7 @@ write_step image log ws a b q size k d (to_one ea eb e z) = (
   λ half drawn inside. spared half a (below_two a 1 ea one_low) inside,
 )
 
-tick_step : (image : List ℕ) (log : Log) (p : Place) (action : Action) (q : Place) → length (ram image log) ≡ 0x800 → KeptBy image log p → next_place p (Did action) ≡ Some q → place_of_life (Did action ∷ life image log) ≡ Some q → Tells action (is_none (open_run log)) → Goes image log Tick (Acted action)
+tick_step : (image : List ℕ) (log : Log) (p : Place) (action : Action) (q : Place) → length (ram image log) ≡ 0x800 → KeptBy image log p → next_place p (Did action) ≡ Some q → place_of_life (Did action ∷ life image log) ≡ Some q → ShowsFlag action (is_none (open_run log)) → Goes image log Tick (Acted action)
 tick_step image log Start Peek q size k e d r = (Booting, moved k (Did Peek ∷ life image log) Booting (d ∙ sym e) tt, tt)
 tick_step image log Booting (Read true) q size k e d r = (Resting true, moved k (Did (Read true) ∷ life image log) (Resting true) (d ∙ sym e) (none_draws (byte image log 1) (open_run log) r, λ f. absurd (true≢false f)), tt)
 tick_step image log Booting (Read false) q size k e d r = (Booting, moved k (Did (Read false) ∷ life image log) Booting (d ∙ sym e) tt, tt)

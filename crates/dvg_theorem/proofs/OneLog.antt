@@ -15,7 +15,7 @@ use Rattle.dvg_log.specs.Entries.{Shown}
 use Rattle.dvg_log.specs.declared.entry.Entry.TheVariants.{Offered, Refused, Busy, Asked, NothingPublished, Acted, Started, NoStrobe, Low, Fetched, Done, Broke, Still, Cleared}
 use Rattle.dvg_gen.specs.Bytes.{Waits, Whole, word_of}
 use Rattle.dvg_log.specs.Log.{◌⟼◌, Log, meets, history, open_run, life}
-use Rattle.dvg_driver.specs.Stands.{Tells}
+use Rattle.dvg_driver.specs.Stands.{ShowsFlag}
 use Rattle.dvg_log.specs.Legal.{IsWanted, IsFetch, Fits, IsLegal, SameLog}
 use Rattle.dvg_driver.proofs.Places.{life_place, place_before}
 use Rattle.dvg_driver.proofs.Shapes.{place_life}
@@ -24,7 +24,7 @@ use Rattle.dvg_theorem.proofs.Bytes.{same_Whole, same_Waits, not_whole}
 use Rattle.dvg_theorem.proofs.Linked.{same_wanted, wanting, fetching}
 
 -- a tick has one action
-one_tick : (image : List ℕ) (log : Log) (a b : Action) → IsLife (Did a ∷ life image log) → IsLife (Did b ∷ life image log) → Tells a (is_none (open_run log)) → Tells b (is_none (open_run log)) → a ≡ b
+one_tick : (image : List ℕ) (log : Log) (a b : Action) → IsLife (Did a ∷ life image log) → IsLife (Did b ∷ life image log) → ShowsFlag a (is_none (open_run log)) → ShowsFlag b (is_none (open_run log)) → a ≡ b
 one_tick image log a b x y t u =
     let after = life_place (Did a ∷ life image log) x in
     let before = place_before (Did a) (life image log) after.0 after.1 in

@@ -30,7 +30,7 @@ use Rattle.dvg_driver.specs.declared.action.Action.TheVariants.{Peek, Wrote, Rea
 use Rattle.dvg_driver.specs.Script.{Did, IsWhole}
 use Rattle.dvg_driver.specs.Place as place
 use Rattle.dvg_driver.specs.Place.{next_place, place_of_life, with_left, after_write}
-use Rattle.dvg_driver.specs.Stands.{Tells}
+use Rattle.dvg_driver.specs.Stands.{ShowsFlag}
 use Rattle.dvg_log.specs.declared.event.Event.TheVariants.{Offer, Redraw, Tick, Strobe, Fetch}
 use Rattle.dvg_log.specs.declared.entry.Entry.TheVariants.{Offered, Busy, NothingPublished, Acted, Started, NoStrobe, Low, Fetched, Done, Still}
 use Rattle.dvg_log.specs.Log.{Line, ◌⟼◌, Log, ram, low_byte, history, open_run, life, IsBeingDrawn}
@@ -158,7 +158,7 @@ LegalOverZeros = IsLegal zeros zeros
 abbrev did : Action → Line
 did action = Tick ⟼ Acted action
 
-ticked : (log : Log) (action : Action) (to : place.Place) → LegalOverZeros log → place_of_life (Did action ∷ life zeros log) ≡ Some to → Tells action (is_none (open_run log)) → LegalOverZeros (did action ∷ log)
+ticked : (log : Log) (action : Action) (to : place.Place) → LegalOverZeros log → place_of_life (Did action ∷ life zeros log) ≡ Some to → ShowsFlag action (is_none (open_run log)) → LegalOverZeros (did action ∷ log)
 ticked log action to legal at reads = ((place_life (Did action ∷ life zeros log) to at, reads), tt, legal)
 
 -- writes of a frame part

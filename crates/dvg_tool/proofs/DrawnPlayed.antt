@@ -16,7 +16,7 @@ use Rattle.dvg_world.specs.Kept.{Draws, Logs, picture_seen}
 use Rattle.dvg_io.specs.Serving.{OfInput}
 use Rattle.dvg_io.proofs.Inputs.{whole}
 use Rattle.dvg_read.specs.TraceGives.{GivesTrace}
-use Rattle.dvg_tool.specs.Plays.{IsDrawn, IsLogged, IsShown, drawn_shown, entry_of, event_of, log_text, logged_shown, picture_text, zeros}
+use Rattle.dvg_tool.specs.Plays.{ArePicturesShown, IsLogged, IsShown, drawn_shown, entry_of, event_of, log_text, logged_shown, picture_text, zeros}
 use Rattle.dvg_read.specs.declared.draft_text.TheConstants.{MOST_TEXT_BYTES}
 
 -- the events of a log, oldest first
@@ -85,7 +85,7 @@ played_so {read} {R} {events} {is_whole} {IsKept} all text input gives e happene
 
 -- what is drawn of a trace that was read is drawn of the input
 pub finds_drawn : {A : Type 0} (read R : List ℕ) (events : List Happening) (drawn : Drawn A) → GivesTrace read events R → Draws R zeros events drawn
-    → OfInput MOST_TEXT_BYTES read (λ input. IsDrawn input drawn)
+    → OfInput MOST_TEXT_BYTES read (λ input. ArePicturesShown input drawn)
 finds_drawn read R events drawn gives draws input e =
     played_so false (drawn_shown drawn) input gives e draws (λ log kept. ap (flat_map picture_text) kept ∙ sym (text_of_pictures log))
 

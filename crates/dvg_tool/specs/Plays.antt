@@ -47,7 +47,7 @@ IsEnd R log later = (later ≡ []) ⊎ ((log ≡ []) ⊎ StopsNext R log later)
 
 -- the text denotes the events of this legal log, and then these, over the ROM that it denotes and
 -- from a memory of zeros; and each line of the log keeps the headline
-pub record IsPlayed (text : List ℕ) (log : Log) (later : List Happening) : Type 0 where
+pub record PlaysTrace (text : List ℕ) (log : Log) (later : List Happening) : Type 0 where
   pub events : List Happening
   pub R : List ℕ
   pub gives : GivesTrace text events R
@@ -60,7 +60,7 @@ pub record ShowsUntil (all : Bool) (text : List ℕ) (Ends : List ℕ → Log �
     (Holds : List ℕ → Type 0) : Type 0 where
   pub log : Log
   pub later : List Happening
-  pub played : IsPlayed text log later
+  pub played : PlaysTrace text log later
   pub ends : Ends played.R log later
   pub holds : Holds (log_text all log)
 
@@ -88,8 +88,8 @@ abbrev pub drawn_shown : {A : Type 0} → Drawn A → List ℕ
 drawn_shown drawn = flat_map picture_text (map picture_seen drawn.pictures.items)
 
 -- the pictures of a log that was played are shown in this way (for a private contract)
-abbrev pub IsDrawn : {A : Type 0} → (text : List ℕ) → Drawn A → Type 0
-IsDrawn text drawn = IsShown false drawn.is_whole text (drawn_shown drawn)
+abbrev pub ArePicturesShown : {A : Type 0} → (text : List ℕ) → Drawn A → Type 0
+ArePicturesShown text drawn = IsShown false drawn.is_whole text (drawn_shown drawn)
 
 -- the faults that come before the first write; want of memory may come after it
 abbrev pub StopsBeforeShowing : ToolFault → Type 0
@@ -100,7 +100,7 @@ StopsBeforeShowing fault = StopsBeforeWriting fault
 -- `Writer` of its front (that nothing went out at the first two faults is a part of `Serves`)
 abbrev pub Plays : {T : Type 0} → Bool → Result T ToolFault → (input : List ℕ) → Option (List ℕ) → Option (List ℕ)
     → Type 0
-Plays all (Ok done) input old new = (log : Log) × IsPlayed input log [] × Appends old new (log_text all log)
+Plays all (Ok done) input old new = (log : Log) × PlaysTrace input log [] × Appends old new (log_text all log)
 Plays all (Err (Text fault)) input old new = HasTraceFault input fault
 Plays all (Err Reader) input old new = Unit {0}
 Plays all (Err Memory) input old new = Appends old new [] ⊎ ShowsUntil all input StopsNext (Appends old new)

@@ -10,12 +10,12 @@ use Rattle.dvg_io.specs.Watching.{BeginsToWrite}
 use Rattle.dvg_job.specs.declared.form.Show.{Show}
 use Rattle.dvg_svg.specs.Svg.{svgs_text}
 use Rattle.dvg_world.specs.Keeping.{pictures_of}
-use Rattle.dvg_tool.specs.Plays.{IsPlayed}
+use Rattle.dvg_tool.specs.Plays.{PlaysTrace}
 
 -- a log was played whole, and these are its pictures
 abbrev pub ShowsPictures : (text : List ℕ) → List (List Stroke) → Type 0
 ShowsPictures text pictures =
-    (log : Log) × IsPlayed text log [] × (pictures ≡ map (λ picture. picture.1) (pictures_of log))
+    (log : Log) × PlaysTrace text log [] × (pictures ≡ map (λ picture. picture.1) (pictures_of log))
 
 -- what `play --svg` answers to an input, and what went out: the pictures of the log, or at `Writer` a
 -- beginning of their text (that nothing went out at the other faults is a part of `Serves`)

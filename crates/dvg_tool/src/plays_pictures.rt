@@ -5,7 +5,7 @@ ghost use Rattle.dvg_world.specs.Kept.{Draws, picture_seen};
 ghost use Rattle.dvg_io.specs.Serving.{AreFresh, Serves};
 ghost use Rattle.dvg_io.specs.Watching.{Writes};
 ghost use Rattle.dvg_read.specs.TraceTexts.{HasTraceFault};
-ghost use Rattle.dvg_tool.specs.Plays.{IsDrawn, Plays, StopsBeforeShowing, drawn_shown};
+ghost use Rattle.dvg_tool.specs.Plays.{ArePicturesShown, Plays, StopsBeforeShowing, drawn_shown};
 ghost use Rattle.dvg_tool.specs.Plays.{picture_text, zeros};
 ghost use Rattle.dvg_read.specs.declared.draft_text.TheConstants.{MOST_TEXT_BYTES};
 
@@ -73,7 +73,7 @@ impl<S: Store> Engine<S::Alloc> for PicturesEngine<S> {
 
     ghost MOST = { MOST_TEXT_BYTES };
 
-    ghost Finds = { λ engine. IsDrawn };
+    ghost Finds = { λ engine. ArePicturesShown };
 
     ghost HasFault = { λ engine. HasTraceFault };
 

@@ -25,7 +25,7 @@ use Rattle.dvg_driver.specs.declared.action.Action.TheVariants.{Peek, Wrote, Rea
 use Rattle.dvg_driver.specs.Script as script
 use Rattle.dvg_driver.specs.Script.{Item, Did, IsWhole, IsLife, has_flip}
 use Rattle.dvg_driver.specs.Stands as driver
-use Rattle.dvg_driver.specs.Stands.{Driving, Tells, byte1_of, peeked_after}
+use Rattle.dvg_driver.specs.Stands.{Driving, ShowsFlag, byte1_of, peeked_after}
 use Rattle.dvg_log.specs.Events.{Happening}
 use Rattle.dvg_log.specs.declared.event.Event.TheVariants.{Offer, Redraw, Tick, Strobe, Fetch, ResetGen, ResetCpu, ResetAll}
 use Rattle.dvg_log.specs.Entries.{Shown, entry_by, map_entry}
@@ -186,7 +186,7 @@ flag_is true (Some met) is_open flag same = let shut = flag.0 refl in absurd (cc
 flag_is false None is_open flag same = flag.1 same
 flag_is false (Some met) is_open flag same = refl
 
-true_read : (log : Log) (halted : Bool) (action : Action) → Tells action halted → halted ≡ is_none (open_run log) → Tells action (is_none (open_run log))
+true_read : (log : Log) (halted : Bool) (action : Action) → ShowsFlag action halted → halted ≡ is_none (open_run log) → ShowsFlag action (is_none (open_run log))
 true_read log halted (Read shown) tells flag = tells ∙ flag
 true_read log halted Peek tells flag = tt
 true_read log halted (Wrote a byte) tells flag = tt
@@ -225,7 +225,7 @@ byte1_acted Sent bytes byte1 peeked items inside read known = known
 byte1_acted Idle bytes byte1 peeked items inside read known = known
 
 pub ticks : {rom bytes : List ℕ} {machine : Machine} {driving driving' : Driving} {sent halted : Bool} {action : Action} {byte1 : ℕ} → IsImage bytes → byte1 ≡ slice_index bytes 1
-    → (IsTrue halted ↔ (machine.is_open ≡ false)) → Tells action halted
+    → (IsTrue halted ↔ (machine.is_open ≡ false)) → ShowsFlag action halted
     → ((peeked : ℕ) (items : List Item) → driver.StandsAfter driving.stage peeked items → IsLife (Did action ∷ items))
     → ((peeked : ℕ) (items : List Item) → driver.StandsAfter driving.stage peeked items → driver.StandsAfter driving'.stage (peeked_after action byte1 peeked) (Did action ∷ items))
     → AddsLine (world_of rom bytes machine driving sent) Tick (Acted action) (world_of rom (ram_by action bytes) machine driving' (sent_by action sent))

@@ -7,7 +7,7 @@ use Rattle.dvg_frame.specs.Faults as faults
 use Rattle.dvg_driver.specs.declared.action.Action.{Action}
 use Rattle.dvg_driver.specs.Script as script
 use Rattle.dvg_driver.specs.Script.{Item, Did, IsLife, IsWhole, has_flip}
-use Rattle.dvg_driver.specs.Stands.{Driving, StandsAfter, Tells, IsInRam, byte1_of, peeked_after}
+use Rattle.dvg_driver.specs.Stands.{Driving, StandsAfter, ShowsFlag, IsInRam, byte1_of, peeked_after}
 use Rattle.dvg_log.specs.declared.entry.Entry.{Entry}
 use Rattle.dvg_log.specs.declared.entry.Entry.TheVariants.{Offered, Refused, Busy, Asked, NothingPublished}
 
@@ -47,6 +47,6 @@ RedrawAnswers driver later entry = ⊥
 
 -- a tick: the action is the next one of the script, shows the HALT flag that was handed in, and writes in the RAM alone
 abbrev pub TickAnswers : Bool → ℕ → Driving → Driving → Action → Type 0
-TickAnswers halted byte1 driver later action = Tells action halted × IsInRam action
+TickAnswers halted byte1 driver later action = ShowsFlag action halted × IsInRam action
     × OfLives driver (λ peeked life. IsLife (Did action ∷ life)
     × StandsAfter later.stage (peeked_after action byte1 peeked) (Did action ∷ life))

@@ -3,7 +3,7 @@ use Rattle.std.specs.Prelude.{◌≡◌, ◌↔◌, ℕ, List}
 use Rattle.dvg_gen.specs.declared.state.GeneratorStateFault.TheVariants as of_generator
 use Rattle.dvg_gen.specs.declared.stroke.Stroke.{Stroke}
 use Rattle.dvg_gen.specs.Saved as generator
-use Rattle.dvg_gen.specs.Saved.{GoesOn, machine_of}
+use Rattle.dvg_gen.specs.Saved.{CanResume, machine_of}
 use Rattle.dvg_driver.specs.Saved as driver
 use Rattle.dvg_driver.specs.Saved.{driving_in}
 use Rattle.dvg_world.specs.declared.state.WorldState.{WorldState}
@@ -13,7 +13,7 @@ use Rattle.dvg_world.specs.Standing.{KeepsLogs, State}
 
 -- a generator goes on in its part of a state, with the strokes
 abbrev pub HasGenerator : {A : Type 0} → WorldState A → Type 0
-HasGenerator state = GoesOn (generator.IsState state.generator) state.strokes.items
+HasGenerator state = CanResume (generator.IsState state.generator) state.strokes.items
 
 -- the parts of a state fit, over this ROM: a generator goes on in its own, and those of the driver fit together
 abbrev pub IsState : {A : Type 0} → List ℕ → WorldState A → Type 0

@@ -11,7 +11,7 @@ use Rattle.dvg_gen.specs.Run.{Visit, Goes, Runs, begins, fate}
 use Rattle.dvg_gen.specs.Told.{Start, Reply, new, starts, wants}
 use Rattle.dvg_gen.proofs.OneRun.{before_end, leaves_same}
 use Rattle.dvg_dump.specs.Ends.{End, Complete, Broken, Ends, halts, breaks, meets_hole, goes_on}
-use Rattle.dvg_dump.specs.Following.{Follows, TakesWord}
+use Rattle.dvg_dump.specs.Following.{FollowsRun, TakesWord}
 use Rattle.dvg_dump.specs.Tracing.{Stepped, Traces, TracesWord, fresh}
 use Rattle.dvg_dump.proofs.OneEnd.{one_end}
 use Rattle.dvg_dump.proofs.OneWordMore.{stepped, wanted_is}
@@ -28,7 +28,7 @@ was_low (Broke fault) is = absurd (cc)
 pub record InRun (memory : ℕ → Option ℕ) (words : ℕ) (machine : Machine) : Type 0 where
   pub visits : List Visit
   pub held : Option ℕ
-  pub follows : Follows memory machine words visits held
+  pub follows : FollowsRun memory machine words visits held
 
 pub at_first : (memory : ℕ → Option ℕ) (machine : Machine) → HasTaken machine (Start ∷ []) None
     → InRun memory 0 machine

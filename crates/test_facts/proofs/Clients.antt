@@ -21,7 +21,7 @@ use Rattle.dvg_read.specs.Texts.{lines, unpassed}
 use Rattle.dvg_read.specs.RomTexts.{RomText, unmapped}
 use Rattle.dvg_read.specs.TraceTexts.{DenotesTrace, FitsDraft, tick, once, nothing, alone, whole}
 use Rattle.dvg_read.specs.TraceGives.{GivesTrace, StopsReading}
-use Rattle.dvg_tool.specs.Plays.{IsPlayed, log_text, event_of, zeros}
+use Rattle.dvg_tool.specs.Plays.{PlaysTrace, log_text, event_of, zeros}
 use Rattle.dvg_read.proofs.OneTrace.{one_trace_meaning, no_fault_beside_trace}
 use Rattle.clap.specs.Words.{Row, Text as WordText}
 use Rattle.dvg_args.specs.Arguments.{IsJob}
@@ -30,7 +30,7 @@ use Rattle.dvg_job.specs.declared.task.Job.TheVariants.{List as list_job, ListAt
 use Rattle.dvg_driver.specs.declared.action.Action.{Action}
 use Rattle.dvg_driver.specs.declared.action.Action.TheVariants.{Peek, Wrote, Read}
 use Rattle.dvg_driver.specs.Script.{Item, Did, Offered, IsLife, IsWhole}
-use Rattle.dvg_driver.specs.Stands.{Tells}
+use Rattle.dvg_driver.specs.Stands.{ShowsFlag}
 use Rattle.dvg_driver.proofs.OneAction.{one_action}
 use Rattle.dvg_driver.proofs.Shapes.{place_life, rests_whole}
 use Rattle.dvg_driver.proofs.Places.{life_place, place_before, whole_rests}
@@ -47,7 +47,7 @@ use Rattle.dvg_theorem.proofs.OneLog.{same_log}
 use Rattle.test_facts.specs.Facts.{blank_frame, two_ticks_shown, two_ticks, tick_text, peek_line}
 
 -- two next actions are one
-pub one_next : (life : List Item) (halted : Bool) (a b : Action) → IsLife (Did a ∷ life) → IsLife (Did b ∷ life) → Tells a halted → Tells b halted → a ≡ b
+pub one_next : (life : List Item) (halted : Bool) (a b : Action) → IsLife (Did a ∷ life) → IsLife (Did b ∷ life) → ShowsFlag a halted → ShowsFlag b halted → a ≡ b
 one_next life halted a b x y t u =
     let after = life_place (Did a ∷ life) x in
     let before = place_before (Did a) life after.0 after.1 in
@@ -146,7 +146,7 @@ nothing_of : (R image : List ℕ) (log : Log) → IsLegal R image log → IsLega
 nothing_of R image [] legal = legal
 nothing_of R image ((event ⟼ entry) ∷ log) legal = nothing_of R image log legal.2
 
-pub played_text : (old new : Option (List ℕ)) (log : Log) → IsPlayed tick_text log [] → Appends old new (log_text true log) → Appends old new peek_line
+pub played_text : (old new : Option (List ℕ)) (log : Log) → PlaysTrace tick_text log [] → Appends old new (log_text true log) → Appends old new peek_line
 played_text old new log p wrote =
     let events = events_are p.events p.R p.gives in
     let same = one_tick_log p.R zeros (nothing_of p.R zeros log p.legal) log p.legal (first_log log (sym p.in_order ∙ events)) in
@@ -204,11 +204,11 @@ no_fault_in (Err fault) stops = no_fault fault stops
 pub plays_tick : {T : Type 0} (known old new : Option (List ℕ)) (value : T) → known ≡ Some tick_text → IfSome known (λ input. Plays true (Ok value) input old new) → Appends old new peek_line
 plays_tick None old new value e p = absurd (cc)
 plays_tick (Some input) old new value e p =
-    let q = subst (λ text. (log : Log) × IsPlayed text log [] × Appends old new (log_text true log)) (same_Some _ _ e) p in
+    let q = subst (λ text. (log : Log) × PlaysTrace text log [] × Appends old new (log_text true log)) (same_Some _ _ e) p in
     played_text old new q.0 q.1 q.2
 
-pub booted_stands : {a b : Action} {s1 s2 : Stage} → IsLife (Did a ∷ []) → Tells a false → StandsAfter s1 (peeked_after a 0 0) (Did a ∷ [])
-    → ((peeked : ℕ) (life : List Item) → StandsAfter s1 peeked life → IsLife (Did b ∷ life)) → Tells b true
+pub booted_stands : {a b : Action} {s1 s2 : Stage} → IsLife (Did a ∷ []) → ShowsFlag a false → StandsAfter s1 (peeked_after a 0 0) (Did a ∷ [])
+    → ((peeked : ℕ) (life : List Item) → StandsAfter s1 peeked life → IsLife (Did b ∷ life)) → ShowsFlag b true
     → ((peeked : ℕ) (life : List Item) → StandsAfter s1 peeked life → StandsAfter s2 (peeked_after b 0 peeked) (Did b ∷ life))
     → StandsAfter s2 0 (Did (Read true) ∷ Did Peek ∷ [])
 booted_stands {a = a} {b = b} {s1 = s1} {s2 = s2} life1 tells1 stands1 life2 tells2 stands2 =

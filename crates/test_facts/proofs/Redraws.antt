@@ -9,7 +9,7 @@ use Rattle.dvg_driver.specs.declared.fault.DriverFault.{DriverFault}
 use Rattle.dvg_driver.specs.declared.fault.DriverFault.TheVariants.{Busy, NothingPublished}
 use Rattle.dvg_driver.specs.Script.{Item, Asked, Did, Offered, IsLife, IsWhole, has_flip}
 use Rattle.dvg_driver.specs.Place.{Place, Resting, place_of_life}
-use Rattle.dvg_driver.specs.Stands.{Driving, Stage, StandsAfter, Tells, peeked_after}
+use Rattle.dvg_driver.specs.Stands.{Driving, ShowsFlag, Stage, StandsAfter, peeked_after}
 use Rattle.dvg_driver.proofs.Shapes.{place_life}
 use Rattle.dvg_driver.proofs.Places.{whole_rests}
 use Rattle.test_facts.specs.Facts.{vector_frame}
@@ -30,9 +30,9 @@ same_stage s t (Err fault) same = ap (λ (driving : Driving). driving.stage) sam
 module _ {s t : Stage} (peeked : ℕ) (life : List Item) (stands : StandsAfter s peeked life) where
   -- a tick does what comes next in the life
   pub ticked : {a : Action} (byte1 : ℕ) (halted : Bool) (does : Action) (to : Place)
-      → place_of_life (Did does ∷ life) ≡ Some to → Tells does halted
+      → place_of_life (Did does ∷ life) ≡ Some to → ShowsFlag does halted
       → (StandsAfter s peeked life → StandsAfter t (peeked_after a byte1 peeked) (Did a ∷ life))
-      → (StandsAfter s peeked life → IsLife (Did a ∷ life)) → Tells a halted
+      → (StandsAfter s peeked life → IsLife (Did a ∷ life)) → ShowsFlag a halted
       → (a ≡ does) × StandsAfter t (peeked_after does byte1 peeked) (Did does ∷ life)
   ticked {a = a} byte1 halted does to is tells next scripted told =
       let comes = place_life (Did does ∷ life) to is in

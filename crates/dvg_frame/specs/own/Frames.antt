@@ -6,12 +6,12 @@ use Rattle.dvg_frame.specs.declared.op.OpKind.{OpKind}
 use Rattle.dvg_frame.specs.Bytes.{bytes}
 use Rattle.dvg_frame.specs.Layout.{size, op_code}
 use Rattle.dvg_frame.specs.Ops.{IsDraft}
-use Rattle.dvg_frame.specs.Steps.{Begins}
+use Rattle.dvg_frame.specs.Steps.{IsWellFormed}
 
 -- a draft without the faults 1 to 4
 pub record IsFrame (F : List OpKind) : Type 0 where
   pub draft : IsDraft F
-  pub begins : Begins F
+  pub begins : IsWellFormed F
 
 -- such a draft, its number of words, and a number below 2 to the power of 63
 abbrev pub IsMeasured : List OpKind → ℕ → ℕ → Type 0

@@ -28,12 +28,12 @@ abbrev pub LeadsTo : List OpKind → List ℕ → Pair → Pair → Type 0
 LeadsTo F R pair next = Leads F R pair.place pair.depth next.place next.depth
 
 -- the way leads from this depth to the pair
-abbrev pub Follows : Way → ℕ → Pair → Type 0
-Follows (Move after words) d next = next ≡ pair_of after d
-Follows (Jump to) d next = next ≡ pair_of to d
-Follows (Call to after) d next = (next ≡ pair_of to (d + 1)) ⊎ (next ≡ pair_of after d)
-Follows Return d next = ⊥
-Follows Halt d next = ⊥
+abbrev pub WayLeadsTo : Way → ℕ → Pair → Type 0
+WayLeadsTo (Move after words) d next = next ≡ pair_of after d
+WayLeadsTo (Jump to) d next = next ≡ pair_of to d
+WayLeadsTo (Call to after) d next = (next ≡ pair_of to (d + 1)) ⊎ (next ≡ pair_of after d)
+WayLeadsTo Return d next = ⊥
+WayLeadsTo Halt d next = ⊥
 
 -- each pair that the way leads to from this depth is one that a draft can have
 abbrev pub StaysIn : Way → ℕ → Type 0

@@ -14,7 +14,7 @@ use Rattle.dvg_frame.specs.declared.checking.table.Ending.TheVariants.{Halts, Re
 use Rattle.dvg_frame.specs.declared.checking.way.Way.{Way}
 use Rattle.dvg_frame.specs.declared.checking.way.Way.TheVariants.{Move, Jump, Call, Return, Halt}
 use Rattle.dvg_frame.specs.own.Pairs.{IsPlace, place_index}
-use Rattle.dvg_frame.specs.Steps.{Stands, Reached, IsFine, Leads, Begins}
+use Rattle.dvg_frame.specs.Steps.{Stands, Reached, IsFine, Leads, IsWellFormed}
 use Rattle.dvg_frame.specs.declared.fault.FrameFault.{FrameFault}
 use Rattle.dvg_frame.specs.Faults.{Accepts, Refuses}
 use Rattle.dvg_frame.specs.Picture.{End, AtHalt, AtReturn, IsBound, Draws as DrawsSo}
@@ -126,7 +126,7 @@ pub record IsGood (F : List OpKind) (R : List ℕ) (d : ℕ) (p : Place) : Type 
 -- such a place, where the table has this of where it leads on
 pub record IsReady (F : List OpKind) (R : List ℕ) (table : List (Option Drawn)) (p : Place) (d : ℕ)
     (rest : Drawn) : Type 0 where
-  pub begins : Begins F
+  pub begins : IsWellFormed F
   pub good : IsGood F R d p
   pub entries : IsTable F R table
   pub next : Place

@@ -54,12 +54,12 @@ EndsWithin R (InFrame i) = ⊥
 EndsWithin R (InRom a) = (word : ℕ) × (rom_word R a ≡ Some word) × IsFirst word × (a + 1 ≡ ROM_END)
 
 -- it leads to the place after it
-abbrev pub GoesOn : Way → Type 0
-GoesOn (Move after words) = Unit {0}
-GoesOn (Jump to) = ⊥
-GoesOn (Call to after) = Unit {0}
-GoesOn Return = ⊥
-GoesOn Halt = ⊥
+abbrev pub LeadsOn : Way → Type 0
+LeadsOn (Move after words) = Unit {0}
+LeadsOn (Jump to) = ⊥
+LeadsOn (Call to after) = Unit {0}
+LeadsOn Return = ⊥
+LeadsOn Halt = ⊥
 
 -- a place at an address at which the ROM has no word
 abbrev pub Outside : List ℕ → Place → Type 0
@@ -96,7 +96,7 @@ HasFaultAt R count pair seen Empty = ⊥
 HasFaultAt R count pair seen NoLabs = ⊥
 HasFaultAt R count pair seen TooLong = ⊥
 HasFaultAt R count pair seen (Target i) = ⊥
-HasFaultAt R count pair seen (RunsOff i) = (pair.place ≡ InFrame i) × (i + 1 ≡ count) × GoesOn seen
+HasFaultAt R count pair seen (RunsOff i) = (pair.place ≡ InFrame i) × (i + 1 ≡ count) × LeadsOn seen
 HasFaultAt R count pair seen (OutOfRom p) = (pair.place ≡ p) × LeadsOutside R seen
 HasFaultAt R count pair seen (TooDeep p) = (pair.place ≡ p) × IsCall seen × (pair.depth ≡ DEEPEST)
 HasFaultAt R count pair seen (NoCaller p) = (pair.place ≡ p) × IsReturn seen × (pair.depth ≡ 0)

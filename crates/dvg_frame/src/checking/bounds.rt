@@ -5,7 +5,7 @@ ghost use Rattle.std.specs.Prelude.{MatchOption};
 ghost use Rattle.dvg_mem.specs.Memory.{IsRom};
 ghost use Rattle.dvg_frame.specs.Faults.{Accepts};
 ghost use Rattle.dvg_frame.specs.Picture.{IsBound};
-ghost use Rattle.dvg_frame.specs.Steps.{Begins};
+ghost use Rattle.dvg_frame.specs.Steps.{IsWellFormed};
 ghost use Rattle.dvg_frame.specs.own.Pairs.{IsPlace};
 ghost use Rattle.dvg_frame.specs.own.Tables.{AllFine, HasChain, HasNone, IsCalled, IsKnown};
 ghost use Rattle.dvg_frame.specs.own.Tables.{IsLonger, IsRefused, IsTable, KeepsKnown, Knows};
@@ -118,7 +118,7 @@ fn follow<A: Allocator>(
     start: Pair,
 ) -> Option<Drawn>
     requires rom { IsRom rom.now }
-    requires begins { Begins draft.now }
+    requires begins { IsWellFormed draft.now }
     requires inside { IsPlaceOf draft.now rom.now start.place }
     requires depth { start.depth ≤ DEEPEST }
     requires reached { AllFine draft.now rom.now → ReachedPair draft.now rom.now start }
@@ -168,7 +168,7 @@ fn settle<A: Allocator>(
     start: Pair,
 ) -> Option<Drawn>
     requires rom { IsRom rom.now }
-    requires begins { Begins draft.now }
+    requires begins { IsWellFormed draft.now }
     requires inside { IsPlaceOf draft.now rom.now start.place }
     requires depth { start.depth ≤ DEEPEST }
     requires reached { AllFine draft.now rom.now → ReachedPair draft.now rom.now start }
@@ -220,7 +220,7 @@ pub(crate) fn bound_of<A: Allocator>(
     chain: &mut Chain,
 ) -> Option<u64>
     requires rom { IsRom rom.now }
-    requires begins { Begins draft.now }
+    requires begins { IsWellFormed draft.now }
     requires none { HasNone table.old }
     ensures { MatchOption result (IsRefused draft.now rom.now)
         (λ n. Accepts draft.now rom.now × IsBound draft.now rom.now n × (n < 2 ^ 63)) }

@@ -2,7 +2,7 @@
 ghost use Rattle.std.specs.Prelude.{◌≡◌, ℕ, ◌<◌, ◌≤◌, ◌↔◌, List, IsTrue, MatchOption};
 ghost use Rattle.std.specs.Prelude.{MatchResult, length};
 ghost use Rattle.dvg_mem.specs.Memory.{IsRom};
-ghost use Rattle.dvg_frame.specs.Steps.{Begins, Misses};
+ghost use Rattle.dvg_frame.specs.Steps.{IsWellFormed, Misses};
 ghost use Rattle.dvg_frame.specs.Faults.{IsChecked, Refuses};
 ghost use Rattle.dvg_frame.specs.own.Firsts.{DrawsLabs, NamesNone};
 ghost use Rattle.dvg_frame.specs.own.Frames.{IsFrame};
@@ -168,7 +168,7 @@ impl Checker {
         rom: &Rom<A>,
     ) -> Result<u64, FrameFault>
         requires rom { IsRom rom.now }
-        requires begins { Begins draft.now }
+        requires begins { IsWellFormed draft.now }
         ensures { BoundOrFault draft.now rom.now result }
     {
         let bound = bound_of(draft, rom, &mut self.table, &mut self.chain);
@@ -186,7 +186,7 @@ impl Checker {
 #[inline(never)]
 fn picked<A: Allocator>(draft: &[Op], rom: &Rom<A>) -> FrameFault
     requires rom { IsRom rom.now }
-    requires begins { Begins draft.now }
+    requires begins { IsWellFormed draft.now }
     requires refused { IsRefused draft.now rom.now }
     ensures { Refuses draft.now rom.now result }
 {

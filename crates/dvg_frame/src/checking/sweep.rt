@@ -1,11 +1,11 @@
 //! The sweep over all pairs that a draft's run can come to.
 ghost use Rattle.std.specs.Prelude.{◌≡◌, ◌≤◌, ◌⊎◌, [], IfSome, MatchOption, Some};
 ghost use Rattle.dvg_mem.specs.Memory.{IsRom};
-ghost use Rattle.dvg_frame.specs.Steps.{Begins};
+ghost use Rattle.dvg_frame.specs.Steps.{IsWellFormed};
 ghost use Rattle.dvg_frame.specs.Faults.{Least};
 ghost use Rattle.dvg_frame.specs.own.Growth.{Grows};
 ghost use Rattle.dvg_frame.specs.own.Pairs.{IsPair, index};
-ghost use Rattle.dvg_frame.specs.own.Sweeps.{Follows, StaysIn};
+ghost use Rattle.dvg_frame.specs.own.Sweeps.{StaysIn, WayLeadsTo};
 ghost use Rattle.dvg_frame.specs.own.Tables.{AllFine};
 
 use crate::checking::look::look;
@@ -28,7 +28,7 @@ pub(crate) struct Found {
 fn spread(list: &mut Worklist, way: Way, depth: u8)
     requires stays { StaysIn way depth }
     requires depth { depth ≤ DEEPEST }
-    ensures { Grows list.old list.new (Follows way depth) }
+    ensures { Grows list.old list.new (WayLeadsTo way depth) }
 {
     match way {
         Way::Move(next, _) | Way::Jump(next) => list.add(Pair { place: next, depth }),
@@ -77,7 +77,7 @@ fn first_of(best: Option<Found>, found: Found) -> Found
 pub(crate) fn sweep<A: Allocator>(list: &mut Worklist, draft: &[Op], rom: &Rom<A>) -> Option<Found>
     requires rom { IsRom rom.now }
     requires empty { list.old ≡ [] }
-    requires begins { Begins draft.now }
+    requires begins { IsWellFormed draft.now }
     ensures { MatchOption result
         (AllFine draft.now rom.now)
         (λ found. Least draft.now rom.now found.fault) }

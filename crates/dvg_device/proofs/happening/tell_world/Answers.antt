@@ -1,6 +1,6 @@
 use Rattle.std.proofs.Common.{◌≡◌, ℕ, refl}
 use Rattle.dvg_world.specs.Standing.{State}
-use Rattle.dvg_device.specs.Generators.{Tells}
+use Rattle.dvg_device.specs.Generators.{IsAnswerTo}
 use Rattle.dvg_device.specs.Worlds.{TellsWorld}
 use Rattle.dvg_device.specs.declared.reply.Reply.{Reply}
 use Rattle.dvg_device.specs.declared.request.Question.{Question}
@@ -10,7 +10,7 @@ use Rattle.dvg_device.proofs.happening.tell_world.Goals as goal
 -- what is no question of the world's own is told by its generator
 told : (question : Question) (world : State) (reply : Reply) → ((n : ℕ) → question ≡ asked.Byte n → ⊥)
     → (question ≡ asked.Driver → ⊥) → ((n : ℕ) → question ≡ asked.Operation n → ⊥)
-    → Tells question world.machine reply → TellsWorld question world reply
+    → IsAnswerTo question world.machine reply → TellsWorld question world reply
 told (asked.Move byte) world reply b d o tells = tells
 told (asked.MoveTo byte) world reply b d o tells = tells
 told asked.Beam world reply b d o tells = tells

@@ -3,7 +3,7 @@ use Rattle.dvg_gen.specs.Bytes.{met}
 use Rattle.dvg_gen.specs.Machine.{Machine, HasTaken}
 use Rattle.dvg_gen.specs.Told.{Told, wants}
 use Rattle.dvg_log.specs.Entries.{entry_by}
-use Rattle.dvg_device.specs.Generators.{GoesOn, OfHistories, onward}
+use Rattle.dvg_device.specs.Generators.{OfHistories, WantsNext, onward}
 use Rattle.dvg_device.proofs.wrapping.fetch_wrapping.Goals as goal
 
 pub returns-in-Ok : goal.returns-in-Ok
@@ -29,5 +29,5 @@ returns-in-Ok c =
           ∙ ap (λ waits. entry_by address (met waits c.args.byte) step tt) (low ∙ stands.after.low);
       answered = λ history waiting stands. told stands.told waiting stands.after;
       read = c.of_fetch.ensures ∙ ap (λ waits. entry_by address (met waits c.args.byte) step tt) low;
-      goes_on = subst (λ machine. GoesOn entry machine reply) c.generator-in-Ok.ensures c.onward.ensures.any_state;
+      goes_on = subst (λ machine. WantsNext entry machine reply) c.generator-in-Ok.ensures c.onward.ensures.any_state;
     })

@@ -3,7 +3,7 @@ use Rattle.std.specs.Io.KnownBytes.{Appends}
 use Rattle.std.proofs.lemmas.Result.{err_from_is_err_and}
 use Rattle.dvg_io.proofs.Served.{served_wanting, unserved}
 use Rattle.dvg_io.specs.Watching.{stream_of}
-use Rattle.dvg_tool.specs.Plays.{IsDrawn, IsShown, drawn_shown}
+use Rattle.dvg_tool.specs.Plays.{ArePicturesShown, IsShown, drawn_shown}
 use Rattle.dvg_tool.proofs.TracesPlayed.{earlier, plays_part, stops}
 use Rattle.dvg_read.specs.declared.draft_text.TheConstants.{MOST_TEXT_BYTES}
 use Rattle.dvg_tool.proofs.plays_pictures.play_pictures.Goals as goal
@@ -16,7 +16,7 @@ returns-in_err-serve g c =
     let written = c.serve.new.writer in
     unserved g.R.Read.remaining g.W.Write.contents MOST_TEXT_BYTES _ _ _ _ c.args.reader.now c.serve.new.reader writer written c.from_residual.result fault
     (is.1 ∙ ap Err is.2) (earlier fault)
-    (λ input. stops (Unit {0}) false IsDrawn (λ drawn. drawn.is_whole) drawn_shown fault g.W.Write.contents writer written input (λ drawn found. found) c.in_err-serve.ensures.unwritten) c.in_err-serve.ensures
+    (λ input. stops (Unit {0}) false ArePicturesShown (λ drawn. drawn.is_whole) drawn_shown fault g.W.Write.contents writer written input (λ drawn found. found) c.in_err-serve.ensures.unwritten) c.in_err-serve.ensures
 
 pub returns-else-branch : goal.returns-else-branch
 returns-else-branch g c =
