@@ -159,8 +159,10 @@ impl Device {
     /// which requests there are, and `Reply` which replies.
     pub fn turn(&mut self, request: u64) -> u64 {
         // The most frequent requests have branches of their own. Each of these functions takes the
-        // number, and reads there what the request brings. So nothing passes through memory here.
-        // What is inlined calls nothing but at its end: so no register is saved here.
+        // number, and reads there what the request brings, so nothing passes through memory here.
+        // What is inlined calls nothing but at its end, so no register is saved here. One match,
+        // in which each request is decoded once, would be 155 lines shorter. As plain Rust it takes
+        // 1.1 times as long for ticks and fetches, 1.7 for staging, 3 for pushes, 3.6 for strokes.
         match Request::of(request) {
             Request::Tick { .. } => self.turn_tick(request),
             Request::Fetch(_) => self.turn_fetch(request),

@@ -40,7 +40,10 @@ pub fn contradicts() -> bool {
 }
 }
 mod judge {
-//! A judge of logs, whoever made them: is each run consistent?
+//! A judge of logs, whoever made them: is each run consistent? It has a call for each kind of line.
+//! Whoever has lines in another form chooses the call by one match: `take` here by event and entry,
+//! dvg_logs by texts, in which a HALT has no word, and dvg_device by numbers. One type of line for
+//! all three would be one match more for each.
 use dvg_driver::Action;
 use dvg_log::{Entry, Event, OwnEntry, OwnEvent};
 use dvg_mem::MEMORY_BYTES;
