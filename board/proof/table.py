@@ -139,7 +139,8 @@ STANDS = [
 CURES = [
     [0x100, 0x200, ': push it, or keep it in page 2'],
     [0x3200, 0x4000, ': an output is written by its name, as WATCHDOG, without an index'],
-    [0x4000, 0x4800, ': the driver alone writes there, so leave out a test of it'],
+    [0x4000, 0x4800, ': only the driver writes there. Draw by its calls, as dvg_put; if this is a '
+                     'memory test, remove it'],
     [0x4800, 0x8000, ': what changes stands in RAM (.segment "BSS")'],
     [0x8000, 0x10000, ': write that one, by its name'],
     [0, 0x10000, ''],
@@ -256,6 +257,6 @@ SAID = {
                'stack, and {fuel} instructions of the NMI',
     'deluxe': '. The outputs of deluxe.inc and ROM below 6800 are allowed, without a proof',
     'no_calls': 'it calls neither dvg_offer, dvg_put nor dvg_pair',
-    'no_others': '{tables} tables checked, {words} words checked; there are no others',
-    'others': '{tables} tables checked, {words} words checked; there are others',
+    'no_others': '{tables} tables checked, {words} words checked; it offers and puts no others',
+    'others': '{tables} tables checked, {words} words checked; it offers or puts others, too',
 }

@@ -65,7 +65,7 @@ export const STANDS = [
 export const CURES = [
 [256, 512, ": push it, or keep it in page 2"],
 [12800, 16384, ": an output is written by its name, as WATCHDOG, without an index"],
-[16384, 18432, ": the driver alone writes there, so leave out a test of it"],
+[16384, 18432, ": only the driver writes there. Draw by its calls, as dvg_put; if this is a memory test, remove it"],
 [18432, 32768, ": what changes stands in RAM (.segment \"BSS\")"],
 [32768, 65536, ": write that one, by its name"],
 [0, 65536, ""]
@@ -160,6 +160,6 @@ export const SAID = {
 "summary": "{count} instructions behind TXS, {calls} subroutines; at most {stack} bytes of the stack, and {fuel} instructions of the NMI",
 "deluxe": ". The outputs of deluxe.inc and ROM below 6800 are allowed, without a proof",
 "no_calls": "it calls neither dvg_offer, dvg_put nor dvg_pair",
-"no_others": "{tables} tables checked, {words} words checked; there are no others",
-"others": "{tables} tables checked, {words} words checked; there are others"
+"no_others": "{tables} tables checked, {words} words checked; it offers and puts no others",
+"others": "{tables} tables checked, {words} words checked; it offers or puts others, too"
 };

@@ -146,6 +146,6 @@ FAULTS = [
     ('SEI between LDX and TXS', STACK, '        ldx #$FF\n        sei\n        txs\n',
      'LDX #$FF, TXS behind one another'),
     ('a test of the vector RAM before TXS', STACK, '        sta $4000\n' + STACK,
-     'so leave out a test of it'),
+     'if this is a memory test, remove it'),
     ('a loop that pushes', FLIES, 'flies:  pha\n        bne flies\n        rts', 'on the stack'),
 ]

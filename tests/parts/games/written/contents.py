@@ -46,14 +46,14 @@ CONTENTS = [
     (*BAT, [put('$C000 | bat + 1')], 'a call amid a shape', 1, 'which is no call of a shape'),
     (*BAT, [put('$E201')], 'a jump into the other half', 1, 'it puts E201'),
     (*BAT, [put('$F400')], 'a short vector whose zero has a sign', 1, 'it puts F400'),
-    (*BAT, [put('$F0F1')], 'a short vector', 0, '46 words checked; there are no others'),
+    (*BAT, [put('$F0F1')], 'a short vector', 0, '46 words checked; it offers and puts no others'),
     (*BAT, [(DRAW, DRAW + '        ldx letters_high,y\n        jsr dvg_put\n')],
      'a shape by an index that is not looked at', 3, 'but what is put at'),
     (*BAT, [(DRAW, DRAW + '        jsr dvg_pair\n')], 'two words', 3, "isn't seen"),
     (*BAT, [(DRAW, DRAW + SCORED.format('cpy #10\n        bcs past'))],
-     'a digit, by CPY and BCS', 0, 'there are no others'),
+     'a digit, by CPY and BCS', 0, 'it offers and puts no others'),
     (*BAT, [(DRAW, DRAW + SCORED.format('tya\n        and #7\n        tay'))],
-     'a digit, by AND and TAY', 0, 'there are no others'),
+     'a digit, by AND and TAY', 0, 'it offers and puts no others'),
     (*BAT, [(DRAW, DRAW + SCORED.format('cpy #10\n        bcc *+5\n        jmp past'))],
      'a digit, by CPY and BCC', 3, "isn't seen"),
     (*BAT, [(DRAW, DRAW + '''        ldx score
@@ -67,7 +67,7 @@ past:
     (*BAT, [(DRAW, DRAW + EITHER.format('both:   jsr dvg_put'))],
      'one of two constants', 3, "isn't seen"),
     (*BAT, [(DRAW, DRAW + EITHER.format('        jsr dvg_put\nboth:'))],
-     'a constant, or none', 0, 'there are no others'),
+     'a constant, or none', 0, 'it offers and puts no others'),
     (*BAT, [(DRAW, DRAW + '''        lda #<($C000 | bat)
         pha
         ldx #>($C000 | bat)
@@ -75,7 +75,7 @@ past:
         jsr dvg_put
 ''')], 'PHA and PLA between', 3, "isn't seen"),
     (*BAT, [('        ldx #$FF\n', '        sta $00,x\n        ldx #$FF\n')],
-     'STA 0,X before TXS', 0, 'there are no others'),
+     'STA 0,X before TXS', 0, 'it offers and puts no others'),
     (*BAT, [offer('lda #<title', 'ldx #>title')],
      'a text for a table', 1, 'where no table stands'),
     (*BAT, [offer('lda #0', 'ldx #2')],
