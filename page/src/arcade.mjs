@@ -4,7 +4,7 @@
 import { WordTimes } from './chance.mjs';
 import { KIND } from './engine.mjs';
 import { Processor } from './processor.mjs';
-import { AREA } from './signs.mjs';
+import { AREA, drawnHalf } from './signs.mjs';
 import { Latches, POKEY } from './sounds.mjs';
 
 /* The processor's cycles in a second, from one NMI to the next, and until the watchdog resets. */
@@ -39,11 +39,13 @@ const CLOSED = 0xFF, OPEN = 0x7F;
  * The memory behind it that keeps 64 bytes without power isn't here. */
 const POKEY_SWITCHES = 0xFD, POKEY_READS = { SWITCHES: POKEY + 8, RANDOM: POKEY + 10 };
 
-/* What is counted of a run, from a moment on. */
+/* What is counted from a moment on. Of the runs `drew` are those that drew a half, `broke` those
+ * that a fault of their list ended, `left` those that a strobe abandoned, and `firstLeft` is the
+ * number of the first of these, from 1 on; `ignored` are strobes. */
 function countsOf(cycles) {
   return {
     from: cycles, pictures: 0, torn: 0, early: 0, first: null, left: 0, resets: 0, fetched: 0,
-    written: 0,
+    written: 0, runs: 0, drew: 0, broke: 0, firstLeft: 0, ignored: 0,
   };
 }
 
@@ -155,14 +157,24 @@ export class Arcade {
 
   strobe() {
     this.catchUp();
-    if (this.running && this.ignored) return;
-    if (this.running && !this.isOld) this.counts.left++;
+    if (this.running && this.ignored) {
+      this.counts.ignored++;
+      return;
+    }
+    if (this.running && !this.isOld) this.leave();
+    this.counts.runs++;
     this.generator.strobe();
     this.tell(KIND.STARTED);
     this.halves.started();
     this.words.begin();
     Object.assign(this, { running: true, isMixed: false, isOld: false });
     this.fetchAt = this.processor.cycles;
+  }
+
+  /* The run that is open is abandoned. */
+  leave() {
+    const { counts } = this;
+    if (counts.left++ === 0) counts.firstLeft = counts.runs;
   }
 
   /* Lets the generator fetch what it has fetched by now. */
@@ -176,9 +188,10 @@ export class Arcade {
     this.counts.fetched++;
     this.tell(got.kind, got.address, got.value);
     if (got.kind === KIND.LOW) this.passTime(0);
-    else if (got.kind === KIND.BROKE) this.end();
+    else if (got.kind === KIND.BROKE) this.breakOff();
     else {
       this.halves.fetched(got.address, got.value);
+      if (got.address === 0 && !this.isOld && drawnHalf(got.value)) this.counts.drew++;
       this.passTime(this.words.of(got.value));
       if (got.kind === KIND.DONE) this.finish();
     }
@@ -190,6 +203,12 @@ export class Arcade {
   end() {
     this.running = false;
     this.halves.halted();
+  }
+
+  /* A run ends by a fault of its list, without a picture. */
+  breakOff() {
+    this.end();
+    if (!this.isOld) this.counts.broke++;
   }
 
   /* A picture is done. */

@@ -21,6 +21,11 @@ const TOLD = {
   unknown: REFUSED,
 };
 
+/* Why a file isn't shown, or '' of one that is. */
+export function whyNotShown(bytes) {
+  return TOLD[kindOf(bytes)] ?? '';
+}
+
 export class Drops {
   /* `stage` does on the page what a file asks for: `tell` a text in the panel, `record` what
    * happened elsewhere, `showLine` an event of it, and `loadRom`, `loadTrace`, `useDraft`. */

@@ -1,8 +1,10 @@
 /* What a game is dropped as: its program, its sockets, its vector ROM, its labels, a zip of these,
  * or the page that `make page` wrote; and the games that are built in. */
+import { isText, kindOf } from './files.mjs';
 import { bytesOfBase64 } from './hex.mjs';
 import { labelsOf } from './programs.mjs';
 import { NMI_VECTOR, PROGRAM_END, RESET_VECTOR, START } from './tables.mjs';
+import { grouped } from './words.mjs';
 
 const SOCKET_BYTES = 2048, NO_BYTE = 0xFF, SHAPES_END = 0x5800;
 /* Asteroids and Asteroids Deluxe: how long a program is, and a vector ROM, and where the sockets of
@@ -15,6 +17,7 @@ const DELUXE = {
   sockets: { d1: 0x6000, ef1: 0x6800, h1: 0x7000, j1: 0x7800, r2: 0x4800, np2: 0x5000 },
 };
 const PROGRAM_BYTES = [ASTEROIDS.program, DELUXE.program];
+const SHAPES_BYTES = [ASTEROIDS.shapes, DELUXE.shapes];
 /* Where a program is first looked at: the driver's first bytes. */
 const DRIVER_BEGINS = [0xA9, 0x00, 0x85, 0x10, 0xA9, 0x03, 0x85, 0x12];
 /* The bytes of a word that `dvg lay --rom` fills a ROM with. */
@@ -51,6 +54,46 @@ function namedSocket({ name }, { sockets }) {
   const names = Object.keys(sockets).join('|');
   const form = new RegExp(`(?:^|[^a-z0-9])f?(${names})(?:[^a-z0-9]|$)`);
   return sockets[form.exec(name.toLowerCase())?.[1]];
+}
+
+/* Whether a file is a socket of a program, by its name. */
+export function isSocketOfProgram(file) {
+  const places = [ASTEROIDS, DELUXE].map((board) => namedSocket(file, board));
+  return file.bytes.length === SOCKET_BYTES && places.some((place) => place >= SHAPES_END);
+}
+
+/* What a file is by its name, and which lengths that may have; undefined of another name. */
+function partNamed(file) {
+  if ([ASTEROIDS, DELUXE].some((board) => namedSocket(file, board) !== undefined)) {
+    return ['a socket', SOCKET_BYTES];
+  }
+  if (/\.program$/.test(file.name)) return ['a program', ...PROGRAM_BYTES];
+  return file.name === 'rom' ? ['a vector ROM', ...SHAPES_BYTES] : undefined;
+}
+
+/* The first file that hasn't the length of what it is by its name, as a text; or ''. Where there is
+ * nothing of a game beside it, it must be of no other use. */
+export function lengthFault(files) {
+  const isGame = files.some(({ bytes }) => isOfGame(bytes));
+  for (const file of files) {
+    const { name, bytes } = file, [part, least, most] = partNamed(file) ?? [];
+    const isWrong = part !== undefined && ![least, most].includes(bytes.length);
+    if (!isWrong || isText(bytes) || !(isGame || kindOf(bytes) === 'unknown')) continue;
+    const deluxe = most === undefined ? '' : `, or ${grouped(most)} for Asteroids Deluxe`;
+    return `${name} has ${grouped(bytes.length)} bytes: ${part} has ${grouped(least)}${deluxe}.`;
+  }
+  return '';
+}
+
+/* What is missing, as a text, where files are a vector ROM alone; or ''. */
+export function romAlone(files) {
+  const isRom = ({ name, bytes }) => !isOfGame(bytes) && (kindOf(bytes) === 'rom'
+    || (name === 'rom' && SHAPES_BYTES.includes(bytes.length)));
+  const isProgram = (file) => isOfGame(file.bytes) || isSocketOfProgram(file);
+  const rom = files.find(isRom);
+  if (rom === undefined || files.some(isProgram)) return '';
+  return `${rom.name} is a vector ROM, the shapes of a game. Its program isn't among them: drop `
+    + 'both at once.';
 }
 
 /* Which board files are for. */

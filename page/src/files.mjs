@@ -19,10 +19,15 @@ const OUTLINE =
 const OPERATION_OR_NAME =
   /^(\.(frame|rom)\b|[A-Za-z_]\w*:|(labs|vctr|svec|call|jump|callrom|jumprom|return|halt)( |$))/i;
 
+/* Whether all bytes are those of a text. */
+export function isText(bytes) {
+  return bytes.every((byte) => byte > 0 && byte <= 0x7E);
+}
+
 /* A dump or a ROM by its length, and a text by its first line that says anything. A file of 4,096
  * bytes is a dump, as the larger ROM has its own button. */
 export function kindOf(bytes) {
-  if (bytes.includes(0) || bytes.some((byte) => byte > 0x7E)) {
+  if (!isText(bytes)) {
     if (DUMP_BYTES.includes(bytes.length)) return 'dump';
     if (bytes.length === ROM_BYTES) return 'rom';
     return bytes.length % PICTURE_BYTES === 0 ? 'pictures' : 'unknown';

@@ -11,7 +11,7 @@ import { besideOf, strokesOfLines, tearCode, tearOf, tearText } from './tears.mj
 import { Chance, Proportions, reelOf } from './chance.mjs';
 import { fragmentOf, plainFragment, stateOf } from './links.mjs';
 import { Code } from './code.mjs';
-import { Drops } from './drops.mjs';
+import { Drops, whyNotShown } from './drops.mjs';
 import { LESSONS, stateOfLesson, withLesson } from './lessons.mjs';
 import { TOUR_RATE, TOUR_STEPS, Tour } from './tour.mjs';
 import { Screen, drawSmall } from './screen.mjs';
@@ -24,7 +24,7 @@ import {
   HOW_TEXT, ONE_HALF_TEXT, counted, countsText, durationText, grouped, instructionText, leftText,
   momentCode, momentText, pictureText, runText, wordCode, wordText,
 } from './words.mjs';
-import { builtGame, isOfGame } from './eproms.mjs';
+import { builtGame } from './eproms.mjs';
 import { Play, listenToPlay } from './play.mjs';
 import { DRIVER_END, START } from './tables.mjs';
 import { linesOfListing } from './twin.mjs';
@@ -624,6 +624,8 @@ async function loadFragment() {
     const state = withLesson(await stateOf(location.hash));
     const isGame = location.hash.length <= 1 || state.game !== undefined;
     document.body.classList.toggle('embed', state.embed === '1');
+    // In a frame there is no room for a question.
+    play.mayAsk = state.embed !== '1';
     showGame(isGame);
     if (isGame) beginGame(state);
     else if (location.hash === OPENING_HASH) showNewcomer();
@@ -668,7 +670,7 @@ async function makeGameLink() {
   history.replaceState(null, '', fragment);
   const isCopied = await navigator.clipboard?.writeText(location.href)
     .then(() => true, () => false);
-  setText(byId('game-said'), `The link, ${fragment.length} characters, stands in the address`
+  play.say(`The link, ${fragment.length} characters, stands in the address`
     + `${isCopied ? ', and was copied' : ''}.`);
 }
 
@@ -676,15 +678,28 @@ async function makeGameLink() {
 async function openFiles(files, kind) {
   const read = await Promise.all(files.map(async (file) => (
     { name: file.name, bytes: new Uint8Array(await file.arrayBuffer()) })));
-  const isGame = kind === null && read.some(({ bytes }) => isOfGame(bytes));
-  if (isGame && await play.openFiles(read)) {
-    showGame(true);
-    history.replaceState(null, '', '#');
-    return;
-  }
+  if (kind === null && await openGame(read)) return;
   if (board === undefined) loadState(FIRST);
   showGame(false);
   await drops.open(files[0], kind);
+}
+
+/* Opens files as a game, or tells where they were dropped why they are none: a game that is shown
+ * stays there. Returns false of what the board shows, which isn't opened. */
+async function openGame(read) {
+  const fault = await play.openFiles(read), [{ name, bytes }] = read;
+  if (fault === null) {
+    showGame(true);
+    history.replaceState(null, '', '#');
+    return true;
+  }
+  const isShown = play.isShown && fault === '', why = isShown ? whyNotShown(bytes) : '';
+  const told = why === '' ? fault : `${name}. ${why}`;
+  if (told !== '') {
+    if (play.isShown) play.say(told, true);
+    else tellFile(name, told, true);
+  }
+  return told !== '';
 }
 
 /* The opening at rest; and after that the tour, but for someone who wants less motion. */

@@ -1,7 +1,9 @@
 /* A game on the page: it is judged while it runs. Tested, not proved. */
 import { HERTZ } from './arcade.mjs';
 import { VERDICT, judgeProgram } from './checker.mjs';
-import { gameOf, gameOfFields, unzipped } from './eproms.mjs';
+import {
+  gameOf, gameOfFields, isOfGame, isSocketOfProgram, lengthFault, romAlone, unzipped,
+} from './eproms.mjs';
 import { listenToRows } from './gestures.mjs';
 import { base64Of, hex } from './hex.mjs';
 import { byId, setText } from './parts.mjs';
@@ -45,9 +47,10 @@ function tellVerdict(id, color, word, text) {
   setText(element.lastElementChild, text);
 }
 
-/* What has come of a change: it tears, it goes dark, or it goes on. */
+/* What has come of a change: it tears, goes dark or goes on; or nothing, as no run has ended. */
 export function outcomeOf({ torn, left, pictures }) {
   if (torn > 0) return 'tears';
+  if (left + pictures === 0) return 'none';
   return left > pictures ? 'dark' : 'on';
 }
 const OUTCOMES = {
@@ -68,8 +71,8 @@ export class Play extends Player {
   /* `games` are those that are built in, and `driver` the driver's bytes. */
   constructor(engine, games, driver) {
     super(engine);
-    Object.assign(this, { games, driver, program: null, textsAt: 0, guess: null });
-    Object.assign(this, { number: -1, turns: 0, onChange: () => {} });
+    Object.assign(this, { games, driver, program: null, textsAt: 0, guess: null, asks: false });
+    Object.assign(this, { number: -1, turns: 0, mayAsk: true, onChange: () => {} });
     // The moment of the rows that somebody looks at, if so, and the torn picture.
     Object.assign(this, { moment: null, looked: null, colors: null });
     this.strip = new Strip(byId('past'));
@@ -86,16 +89,29 @@ export class Play extends Player {
     if (isOpening) this.script = [...OPENING];
   }
 
-  /* Begins the game that files are of: whether there is one among them. */
+  /* Begins the game that files are of. Returns null, or why there is none among them; of files that
+   * aren't of a game ''. */
   async openFiles(list) {
-    const files = await unzipped(list), game = gameOf(files);
-    if (game === null) return false;
     const name = list.map((file) => file.name).join(', ');
+    const files = await unzipped(list).catch(() => null);
+    if (files === null) return `${name}: it can't be unpacked.`;
+    const fault = lengthFault(files) || (this.isShown ? romAlone(files) : '');
+    if (fault !== '') return fault;
+    const isGame = [...list, ...files].some(({ bytes }) => isOfGame(bytes))
+      || (this.isShown && files.some(isSocketOfProgram));
+    const game = isGame ? gameOf(files) : null;
+    if (game === null) return '';
     const shapes = game.hasShapes ? '' : ' Its vector ROM isn\'t among them, so it calls nothing: '
       + 'drop both at once.';
     const sockets = game.missing === '' ? '' : ` ${game.missing} of its sockets aren't among them.`;
     this.begin(name, game, `${name}.${sockets}${shapes}`);
-    return true;
+    return null;
+  }
+
+  /* Says something beside what opens a game: the game that is there goes on. */
+  say(text, isBad = false) {
+    setText(byId('game-said'), text);
+    byId('game-said').className = isBad ? 'bad' : '';
   }
 
   /* `number` is that of a game that is built in. */
@@ -104,10 +120,11 @@ export class Play extends Player {
     byId('games').querySelectorAll('button').forEach((button, k) => {
       button.setAttribute('aria-pressed', String(k === number));
     });
-    setText(byId('game-said'), said);
+    this.say(said);
     byId('mistake').checked = false;
     const isSame = withMistake(game.program).every((byte, k) => byte === game.program[k]);
     byId('mistake').parentElement.hidden = isSame;
+    byId('mistake-note').hidden = isSame;
     this.restart();
     byId('tube').focus({ preventScroll: true });
   }
@@ -118,7 +135,7 @@ export class Play extends Player {
     const bytes = byId('mistake').checked ? withMistake(program) : program;
     this.insert(bytes, shapes);
     this.program = new Program(bytes, labels);
-    this.changeBoard();
+    this.changeBoard('the game began');
     this.judge();
     this.setPaused(false);
   }
@@ -156,14 +173,15 @@ export class Play extends Player {
 
   /* --- What if --- */
 
-  /* Takes what the buttons ask of the board. From now on the verdicts are of what comes. */
-  changeBoard() {
+  /* Takes what the buttons ask of the board. From now on the verdicts are of what comes, and
+   * `since` says since when that is. */
+  changeBoard(since = 'the board was changed') {
     const { arcade } = this;
     arcade.wireCut = byId('game-wire').getAttribute('aria-pressed') === 'true';
     arcade.slow = Number(byId('beam').value);
     arcade.ignored = byId('strobes-ignored').checked;
     arcade.countAnew();
-    this.guess = null;
+    Object.assign(this, { since, guess: null, asks: this.isOther && this.mayAsk });
     setText(byId('game-wire'), arcade.wireCut ? 'Mend the HALT wire' : 'Cut the HALT wire');
     this.showTexts();
     this.onChange();
@@ -172,29 +190,30 @@ export class Play extends Player {
   /* Whether something is asked of the board that it isn't by itself. */
   get isOther() { return this.arcade.wireCut || this.arcade.slow > 1 || this.arcade.ignored; }
 
+  /* Takes what somebody guesses, or null from who wants no question. */
   takeGuess(guess) {
-    this.guess = guess;
+    Object.assign(this, { guess, asks: false });
     this.showTexts();
   }
 
-  /* What is told of a change: a question, and after some seconds the answer. */
+  /* What is told of a change: a question, until somebody has taken it, and then the answer. */
   get whatText() {
-    const { arcade, guess } = this;
+    const { arcade, guess, asks } = this;
     if (!this.isOther) {
-      return 'The game waits for HALT before it begins the next picture. Change the board: what '
-        + 'will come of it?';
+      return 'The game waits for HALT. Change the board: what comes of it?';
     }
-    if (arcade.seconds < ANSWER_AFTER) return 'What will come of it?';
+    if (asks) return 'What will come of it?';
     const outcome = outcomeOf(arcade.counts), said = guess === null ? ''
       : `You said: ${OUTCOMES[guess]}. `;
-    const pace = arcade.slow > 1 ? ', with fewer pictures' : ' as before';
-    return `${said}${OUTCOMES[outcome][0].toUpperCase()}${OUTCOMES[outcome].slice(1)}`
-      + `${outcome === 'on' ? pace : ''}: ${this.whyText(outcome)}`;
+    if (arcade.seconds < ANSWER_AFTER) return `${said}Watch it for ${ANSWER_AFTER} seconds.`;
+    if (outcome === 'none') return `${said}Nothing has come of it yet: no run has ended.`;
+    return `${said}${OUTCOMES[outcome][0].toUpperCase()}${OUTCOMES[outcome].slice(1)}: `
+      + this.whyText(outcome);
   }
 
-  /* Why it is so, by what was counted. */
+  /* Why it is so, by what was counted; by no number that changes, as each change is read aloud. */
   whyText(outcome) {
-    const { wireCut, ignored, counts } = this.arcade;
+    const { wireCut, counts } = this.arcade;
     if (outcome === 'tears') {
       return 'the game wrote the next picture into the one that was being drawn.';
     }
@@ -202,10 +221,15 @@ export class Play extends Player {
       return 'each strobe that comes while the beam draws starts it anew, so hardly a picture is '
         + 'finished. With strobes ignored, it may tear instead.';
     }
-    if (!wireCut) return 'with the wire it waits for as long as the beam takes.';
-    if (counts.early > 0) return 'bytes came early, but no picture showed parts of two.';
-    return `it hears "done" at once, but waits for its beats all the same, and they are longer `
-      + `than the beam draws${ignored ? '' : '. A slower beam may not keep up'}.`;
+    if (counts.left > 0) {
+      return `some runs are abandoned, the first of them run ${counts.firstLeft}, as a strobe came `
+        + 'before HALT.';
+    }
+    if (counts.early > 0) return 'bytes came early, but no picture is torn.';
+    if (counts.ignored > 0) return 'strobes that came before HALT were ignored.';
+    if (!wireCut) return 'each run came to HALT before the next strobe, as the wire is whole.';
+    return 'it reads "done" at once, and yet each run came to HALT before the next strobe. With a '
+      + 'slower beam they may not.';
   }
 
   /* --- The last seconds --- */
@@ -267,7 +291,7 @@ export class Play extends Player {
   /* What both ends did just before the moment. */
   get momentText() {
     const { past } = this.arcade, slot = this.moment - 1;
-    const time = `At ${past.timeOf(this.moment).toFixed(4)} s`;
+    const time = `At ${past.timeOf(this.moment).toFixed(4)} s of the game`;
     if (slot < 0) return `${time} the rows begin: what was before is forgotten.`;
     const [drawn, written] = [ROW.GENERATOR, ROW.DRIVER].map((row) => past.areas[row][slot]);
     const drawing = drawn === 0 ? 'is halted' : `draws ${areaName(drawn)}`;
@@ -291,9 +315,10 @@ export class Play extends Player {
 
   byteText({ picture, byte, parts }) {
     const { at, readAt, by, isEarly } = byte, later = 1000 * (readAt - at) / HERTZ;
-    return `At ${(at / HERTZ).toFixed(4)} s a byte ${isEarly ? 'came early' : 'was written'}, by `
-      + `${this.instructionText(by)}. ${tearCode({ word: byte })} ${later.toFixed(2)} ms later the `
-      + `generator read it: there the tear begins. ${redText(parts.wrong, picture)}`;
+    return `At ${(at / HERTZ).toFixed(4)} s of the game a byte `
+      + `${isEarly ? 'came early' : 'was written'}, by ${this.instructionText(by)}. `
+      + `${tearCode({ word: byte })} ${later.toFixed(2)} ms later the generator read it: `
+      + `there the tear begins. ${redText(parts.wrong, picture)}`;
   }
 
   /* The picture that is looked at, or the newest one. */
@@ -308,7 +333,8 @@ export class Play extends Player {
     const [first, ...others] = lines;
     if (verdict === VERDICT.REFUSED) {
       const count = counted(lines.length, 'instruction');
-      tellVerdict('every', 'bad', 'Refused', `: ${count} may tear it, or can't be followed.`);
+      tellVerdict('every', 'bad', 'Refused', `: ${count} may tear a picture, or lead where this `
+        + 'check can\'t follow. Why:');
       setText(byId('every-lines'), lines.join('\n'));
     } else {
       const isGood = verdict === VERDICT.GOOD;
@@ -324,17 +350,12 @@ export class Play extends Player {
   showTexts() {
     const { arcade } = this, { counts } = arcade;
     this.showPictures(counts);
-    tellVerdict('run-halves', counts.early ? 'early' : 'good', counts.early ? 'Early' : 'In time',
-      counts.early ? `: ${counted(counts.early, 'byte')}${this.firstText(counts.first)}`
-        : ': each byte.');
-    tellVerdict('run-left', counts.left ? 'bad' : 'good', counts.left ? 'Abandoned' : 'Finished',
-      counts.left ? `: ${counted(counts.left, 'run')}, by a strobe that came too soon.`
-        : ': each run.');
+    this.showHalves(counts);
+    this.showRuns(counts);
     setText(byId('run-counts'), this.countsText());
     byId('show-byte').hidden = counts.torn === 0 || arcade.past.torn === null;
     setText(byId('what-text'), this.whatText);
-    byId('guesses').hidden = !this.isOther || this.guess !== null
-      || arcade.seconds >= ANSWER_AFTER;
+    byId('guesses').hidden = !this.asks;
     byId('wire-note').hidden = !arcade.wireCut;
   }
 
@@ -345,6 +366,26 @@ export class Play extends Player {
     else tellVerdict('run-moments', color, word, `: each of ${counted(pictures, 'picture')}.`);
   }
 
+  /* Bytes are in time only where a run drew a half, and some were written. */
+  showHalves({ early, first, drew, written }) {
+    const tell = (...words) => tellVerdict('run-halves', ...words);
+    if (early > 0) tell('early', 'Early', `: ${counted(early, 'byte')}${this.firstText(first)}`);
+    else if (drew > 0 && written > 0) tell('good', 'In time', ': each byte.');
+    else tell('', '', 'No byte is judged yet.');
+  }
+
+  /* Runs are finished only where some came to HALT. */
+  showRuns({ pictures, left, firstLeft, broke }) {
+    const tell = (...words) => tellVerdict('run-left', ...words);
+    if (left > 0) {
+      tell('bad', 'Abandoned', `: ${counted(left, 'run')}, as a strobe came before HALT; the first `
+        + `is run ${firstLeft}.`);
+    } else if (broke > 0) {
+      tell('bad', 'Broken off', `: ${counted(broke, 'run')}, by a fault of the list drawn.`);
+    } else if (pictures > 0) tell('good', 'Finished', ': each run.');
+    else tell('', '', 'No run is finished yet.');
+  }
+
   /* An instruction, by its label, or as the driver's. */
   instructionText(at) {
     return `${isDriver(at) ? 'the driver, ' : ''}${this.program.where(at)}: ${this.program.at(at)}`;
@@ -352,7 +393,8 @@ export class Play extends Player {
 
   /* Which instruction wrote the first early byte. */
   firstText({ at, cycles }) {
-    return `, the first by ${this.instructionText(at)}, at ${(cycles / HERTZ).toFixed(2)} s.`;
+    return `, the first by ${this.instructionText(at)}, at ${(cycles / HERTZ).toFixed(2)} s of the `
+      + 'game.';
   }
 
   countsText() {
@@ -362,7 +404,8 @@ export class Play extends Player {
       `${written.toLocaleString('en')} written`];
     if (resets > 0) others.push(`${counted(resets, 'reset')} by the watchdog`);
     if (arcade.fault !== '') others.push(`stopped: ${arcade.fault}`);
-    return `${rate} pictures a second, ${seconds.toFixed(1)} s: ${others.join(', ')}.`;
+    return `${rate} pictures a second, ${seconds.toFixed(1)} s since ${this.since}: `
+      + `${others.join(', ')}.`;
   }
 
   tell(now) {
@@ -395,6 +438,6 @@ export function listenToPlay(play) {
     },
   });
   for (const button of document.querySelectorAll('[data-guess]')) {
-    button.addEventListener('click', () => play.takeGuess(button.dataset.guess));
+    button.addEventListener('click', () => play.takeGuess(button.dataset.guess || null));
   }
 }

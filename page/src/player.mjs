@@ -153,14 +153,29 @@ export class Player {
 
 /* Who clicks a button goes on by the keys of the game; who presses it by a key stays there. */
 function goOnByKeys(player, { detail, target }) {
-  if (!player.isShown || detail === 0 || !target.closest?.('button')) return;
-  byId('tube').focus({ preventScroll: true });
+  if (detail > 0 && target.closest?.('button')) leadKeysToGame(player);
+}
+
+/* So does who chooses from a list, or ticks a box: `isByKey` says whether a key came last. */
+function listenToChoices(player) {
+  let isByKey = false;
+  for (const type of ['keydown', 'pointerdown']) {
+    document.addEventListener(type, () => { isByKey = type === 'keydown'; }, true);
+  }
+  document.addEventListener('change', ({ target }) => {
+    if (!isByKey && target.closest?.('#play')) leadKeysToGame(player);
+  });
+}
+
+function leadKeysToGame(player) {
+  if (player.isShown) byId('tube').focus({ preventScroll: true });
 }
 
 /* Keys, touches and buttons of a game; `player` has restart(), too. */
 export function listenToPlayer(player) {
   const on = (id, act) => byId(id).addEventListener('click', act);
   document.addEventListener('click', (event) => goOnByKeys(player, event));
+  listenToChoices(player);
   listenToGameKeys(player);
   for (const button of document.querySelectorAll('[data-input]')) listenToTouch(player, button);
   on('restart', () => player.restart());

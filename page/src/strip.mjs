@@ -36,6 +36,6 @@ export class Strip extends Rows {
 
   texts() {
     const seconds = this.span * SLOT_CYCLES / HERTZ;
-    return ['the generator draws', 'the game writes', `${seconds.toFixed(2)} s`];
+    return ['the generator draws', 'the game writes', `${seconds.toFixed(2)} s across`];
   }
 }

@@ -974,6 +974,10 @@ async function testEmbed() {
       writeFileSync(`${work}/page_embed_${link.slice(0, 4)}_${width}.png`, await tab.screenshot());
     }
   }
+  await tab.open(`${front}#game=Rocks&wire=cut&embed=1`);
+  await expectSoon('what comes of it is told without a question', /^It goes on: /,
+    () => tab.text('what-text'));
+  expect('nobody is asked', true, await isHidden('guesses'));
   await tab.size(1600, 1000);
 }
 
@@ -1728,8 +1732,13 @@ async function testGame() {
   await expectSoon('its pace', /^6[01]\.[0-9] pictures a second, [3-9]/,
     () => tab.text('run-counts'));
   writeFileSync(`${work}/page_game.png`, await tab.screenshot());
-  expect('no mistake is offered that Rocks can\'t have', false,
-    await tab.value('document.getElementById("mistake").checkVisibility()'));
+  for (const id of ['mistake', 'mistake-note']) {
+    expect('no mistake is offered that Rocks can\'t have', false,
+      await tab.value(`document.getElementById('${id}').checkVisibility()`));
+  }
+  expect('what early is stands there', '', await outOfView(['#early-note']));
+  expect('in words', 'Early: stored into the half that was being drawn, before HALT.',
+    await wordsOf('#early-note'));
   await tab.click('pause');
   expect('strokes are seen', true, (await tab.value(LIT)).found.length > 300);
   const words = (await tab.value('document.getElementById("play").innerText'));
@@ -1762,8 +1771,8 @@ async function testTube() {
   expect('and later another one', true, seen.size > 1);
 }
 
-// Who clicks a button of the game plays on by its keys; and after a file that is none of the page's
-// the link to the game leads back to it.
+// Who clicks a button of the game plays on by its keys; and after a log the link to the game leads
+// back to it.
 async function testWayBack() {
   await tab.open(`${front}#`);
   await tab.until('/, [1-9]\\.[0-9] s/.test(document.getElementById("run-counts").textContent)');
@@ -1774,11 +1783,34 @@ async function testWayBack() {
   expect('and Space mends no wire', 'true',
     await tab.value('document.getElementById("game-wire").getAttribute("aria-pressed")'));
   await tab.click('game-wire');
-  await tab.drop('tube', put('a.png', Buffer.from('\x89PNG\r\n\x1A\n', 'latin1')));
+  await tab.drop('tube', `${top}examples/logs/tears.log`);
   const plays = 'document.body.classList.contains("plays")';
   await expectSoon('no game is shown', false, () => tab.value(plays));
   await tab.value('document.querySelector(".to-game").click()');
   await expectSoon('and then it is again', true, () => tab.value(plays));
+}
+
+// So does who chooses from a list or ticks a box by a pointer; who does it by a key stays there.
+async function testChoices() {
+  await tab.open(`${front}#`);
+  const focus = () => tab.value('document.activeElement.id');
+  const { x, y } = await tab.middle('beam');
+  await tab.clickAt(x, y);
+  await tab.key('ArrowDown');
+  await tab.key('Enter');
+  await expectSoon('a list is chosen from by a pointer', '2', () => tab.value('beam.value'));
+  await expectSoon('the keys are the game\'s', 'tube', focus);
+  await tab.click('strobes-ignored');
+  expect('so they are after a box', 'tube', await focus());
+  await tab.click('label:has(#strobes-ignored)');
+  expect('and after its text', 'tube', await focus());
+  await tab.value('document.getElementById("beam").focus()');
+  await tab.key('ArrowDown');
+  expect('a key chooses', '4', await tab.value('beam.value'));
+  expect('and stays at the list', 'beam', await focus());
+  await tab.value('document.getElementById("strobes-ignored").focus()');
+  await tab.key(' ');
+  expect('and so it does at a box', 'strobes-ignored', await focus());
 }
 
 // Keys and touches come to the game: in Rocks the ship turns, and a shot is seen.
@@ -1914,9 +1946,27 @@ async function testGamePage() {
   await tab.size(1600, 1000, false);
 }
 
+// A question is in view at once, and stays until somebody answers it, or wants none.
+async function testQuestion() {
+  await tab.size(1280, 900);
+  for (const game of ['Rocks', 'Bat+and+ball', 'The+test+ROM']) {
+    await tab.open(`${front}#game=${game}&wire=cut`);
+    const isThere = () => outOfView(['#what-text', '#guesses', '[data-guess=tears]']);
+    await expectSoon(`${game}: a question is in view`, '', isThere);
+    await tab.until('/, [4-9]\\.[0-9] s /.test(document.getElementById("run-counts").textContent)');
+    expect(`${game}: after seconds, too`, '', await isThere());
+    expect(`${game}: it isn't answered`, 'What will come of it?', await tab.text('what-text'));
+    await tab.click('[data-guess=""]');
+    expect(`${game}: who wants none is told`, /^It goes (on|dark): /, await tab.text('what-text'));
+    expect(`${game}: and no longer asked`, true, await isHidden('guesses'));
+  }
+  await tab.size(1600, 1000);
+}
+
 // What comes of a board that is changed, after a guess: the test ROM goes dark with its wire cut,
 // and with strobes ignored it tears; mended, it is whole again.
 async function testWhatIf() {
+  await testQuestion();
   await openGame(5);
   await tab.click('game-wire');
   await tab.click('[data-guess=tears]');
@@ -1930,6 +1980,7 @@ async function testWhatIf() {
   await tab.click('strobes-ignored');
   await expectSoon('it tears', /^Torn: ([0-9]+) of [0-9]+ pictures\.$/,
     () => tab.text('run-moments'));
+  await tab.click('[data-guess=""]');
   await expectSoon('so says the answer', /^It tears: /, () => tab.text('what-text'));
   expect('an early byte has its instruction',
     /^Early: [0-9]+ bytes, the first by the driver, 6[89A][0-9A-F]{2}: sta /,
@@ -2012,8 +2063,8 @@ async function testStrip() {
     await tab.key('ArrowLeft', k % 3 ? 0 : 8);
   }
   const told = await tab.text('past-text');
-  expect('what both ends do is told', /^At [0-9]+\.[0-9]{4} s the generator (is|draws half) /,
-    told);
+  expect('what both ends do is told',
+    /^At [0-9]+\.[0-9]{4} s of the game the generator (is|draws half) /, told);
   expect('by which instruction', writes, told);
   expect('so says the slider', told, await tab.value(
     'document.getElementById("past").getAttribute("aria-valuetext")'));
@@ -2038,8 +2089,9 @@ async function testByteOfGame() {
     await tab.until('!document.getElementById("show-byte").hidden'));
   await tab.click('show-byte');
   expect('the game rests at it', 'Play', await tab.text('pause'));
-  expect('it is told', new RegExp('^At [0-9]+[.][0-9]{4} s a byte came early, by the driver, '
-    + '6[89A][0-9A-F]{2}: sta .*[.] It wrote [0-9A-F]{2} over [0-9A-F]{2} into byte [0-9A-F]{3}, '
+  expect('it is told', new RegExp('^At [0-9]+[.][0-9]{4} s of the game a byte came early, by the '
+    + 'driver, 6[89A][0-9A-F]{2}: sta .*[.] It wrote [0-9A-F]{2} over [0-9A-F]{2} into byte '
+    + '[0-9A-F]{3}, '
     + 'the (low|high) byte of word [0-9A-F]{3}[.] [0-9]+[.][0-9]{2} ms later the generator read '
     + 'it: there the tear begins[.] [1-9][0-9]* of [0-9]+ strokes, red and dashed, '),
   await tab.text('past-text'));
@@ -2076,12 +2128,14 @@ async function testGameDrops() {
     () => tab.text('run-moments'));
   expect('it is accepted', /^Accepted: /, await tab.text('every'));
   expect('and told', 'game.program, rom.', await tab.text('game-said'));
+  expect('what its mistake is', 'It stores where it should call dvg_put: tick this to see a '
+    + 'mistake found.', await wordsOf('#mistake-note'));
   await tab.click('mistake');
   await expectSoon('with its mistake it is refused', /^Refused: 3 instructions /,
     () => tab.text('every'));
   const at = 0x6C8F, stores = [[at, 0x8D], [at + 1, 0x04], [at + 2, 0x40]];
   await tab.drop('tube', filesOfGame(1, stores));
-  await expectSoon('one with a fault is refused', /^Refused: 1 instruction may tear it/,
+  await expectSoon('one with a fault is refused', /^Refused: 1 instruction may tear a picture, /,
     () => tab.text('every'));
   expect('it is told why', /^6C8F: sta \$4004: it writes 4004, the vector RAM: /,
     await tab.text('every-lines'));
@@ -2098,6 +2152,53 @@ async function testGameDrops() {
   await tab.drop('tube', `${top}examples/logs/tears.log`);
   await expectSoon('a log leads to the board', false,
     () => tab.value('document.body.classList.contains("plays")'));
+}
+
+// What may be dropped on a game and is none, and what is told of it.
+function wrongFiles() {
+  const [program, rom] = filesOfGame(1), bytes = readFileSync(program);
+  const sockets = ['ef2', 'h2', 'j2'].map((name, k) => (
+    put(`game.${name}`, bytes.subarray(2048 * k, 2048 * (k + 1) - (k === 0 ? 1 : 0)))));
+  return [[put('a.png', Buffer.from('\x89PNG\r\n\x1A\n', 'latin1')),
+    /^a\.png\. This is neither a game, .*, so it was not opened\.$/],
+  [put('notes.txt', 'Buy milk.\n'), /^notes\.txt\. This is neither a game, /],
+  [put('judge.log', 'reset 0.1\npicture 0.2 0.1 0 6C71\n'), /^judge\.log\. This is what make /],
+  [put('broken.zip', Buffer.from('PK\x03\x04and no more')), /^broken\.zip\. This is neither /],
+  [rom, /^rom is a vector ROM, the shapes of a game\. Its program isn't among them: drop both at /],
+  [[...sockets, rom], /^game\.ef2 has 2,047 bytes: a socket has 2,048\.$/]];
+}
+
+// It is told beside what opens a game, in view, and the game that is there goes on.
+async function testWrongDrops() {
+  const pictures = async () => Number(/[0-9]+/.exec(await tab.text('run-moments')));
+  for (const [width, height] of [[400, 800], [1280, 900]]) {
+    await tab.size(width, height, width === 400);
+    await tab.open(`${front}#`);
+    for (const [files, text] of wrongFiles()) {
+      await tab.drop('tube', files);
+      await expectSoon(`${width}: it is told`, text, () => tab.text('game-said'));
+      expect(`${width}: ${text} is bad`, 'bad',
+        await tab.value('document.getElementById("game-said").className'));
+      expect(`${width}: ${text}: the game stays`, true,
+        await tab.value('document.body.classList.contains("plays")'));
+      const before = await pictures();
+      await expectSoon(`${width}: and goes on`, true, async () => await pictures() > before);
+      await tab.value('scrollTo(0, 0)');
+      if (width > 400) expect('it is in view', '', await outOfView(['#game-said']));
+    }
+    expect('it is Rocks', 'true',
+      await tab.value('document.querySelector("#games button").getAttribute("aria-pressed")'));
+    if (width > 400) writeFileSync(`${work}/page_game_wrong.png`, await tab.screenshot());
+    await tab.drop('tube', filesOfGame(1));
+    await expectSoon('a game is told', 'game.program, rom.', () => tab.text('game-said'));
+    expect('and isn\'t bad', '',
+      await tab.value('document.getElementById("game-said").className'));
+  }
+  await openPage();
+  await tab.drop('rows', wrongFiles().at(-1)[0]);
+  await expectSoon('on the board the panel tells it', /^game\.ef2 has 2,047 bytes: /,
+    () => tab.text('file-text'));
+  await tab.size(1600, 1000);
 }
 
 // On each size the picture and the verdicts are in view; on a phone the picture and its buttons.
@@ -2167,7 +2268,8 @@ async function testMinutes() {
       sizes.push(await memoryNow());
     }
     expectFlat(`${minutes} minutes of a game`, sizes, began);
-    const seconds = Number(/, ([0-9.]+) s: /.exec(await tab.text('run-counts'))[1]);
+    const seconds = Number(/, ([0-9.]+) s since the game began: /
+      .exec(await tab.text('run-counts'))[1]);
     const pictures = Number(/^Whole: each of ([0-9]+) /.exec(await tab.text('run-moments'))[1]);
     expect('it ran all the time', true, seconds > 60 * minutes - 1);
     expect('and drew', true, pictures > 60 * seconds && pictures < 62 * seconds);
@@ -2295,8 +2397,8 @@ const tests = {
   testHttp, testInView, testGrey, testCode, testTour, testMend,
     testWidths, testSmall, testEmbed, testColors, testMotion, testKeys, testRows, testOnAndOn,
     testEdges,
-  testGame, testTube, testHands, testWayBack, testWhatIf, testTries, testStrip, testSound,
-    testGameDrops, testGameLink, testGamePage, testGameWidths,
+  testGame, testTube, testHands, testWayBack, testChoices, testWhatIf, testTries,
+    testStrip, testSound, testGameDrops, testWrongDrops, testGameLink, testGamePage, testGameWidths,
   testLive, testPlain, testLessonFrames, testEditorsStill, testReadAloud, testAccess, testStops,
   testMinutes, testBoards, testSpeed, testSlowed,
 };

@@ -153,6 +153,7 @@ async function testGame(browser) {
   await finger({ type: 'pointerUp', button: 0 });
   expect('until it is lifted', true, await comesTo(fire, false));
   await browser.value('document.getElementById("game-wire").click()');
+  await browser.value('document.querySelector("[data-guess=\'\']").click()');
   expect('with its wire cut it goes dark', true, await browser.until(
     '/^It goes dark: /.test(document.getElementById("what-text").textContent)'));
 }

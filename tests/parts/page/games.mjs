@@ -15,7 +15,9 @@ import {
 import { Arcade, HERTZ } from '../../../page/src/arcade.mjs';
 import { VERDICT, judgeProgram } from '../../../page/src/checker.mjs';
 import { Engine, KIND } from '../../../page/src/engine.mjs';
-import { builtGame, gameOf, isOfGame, unzipped } from '../../../page/src/eproms.mjs';
+import {
+  builtGame, gameOf, isOfGame, lengthFault, romAlone, unzipped,
+} from '../../../page/src/eproms.mjs';
 import { heldBy } from '../../../page/src/gamepads.mjs';
 import { hex } from '../../../page/src/hex.mjs';
 import { fragmentOf, plainFragment, stateOf } from '../../../page/src/links.mjs';
@@ -250,13 +252,12 @@ async function testBreakGame() {
     { name: 'rom', bytes: Buffer.from(shapes) }]);
   for (let k = 0; k < 60; k++) play.run(1 / 30);
   play.showTexts();
-  const told = (id) => [parts[id].firstElementChild, parts[id].lastElementChild]
-    .map(({ textContent }) => textContent).join('');
+  const told = (id) => verdictOf(parts[id]).replace('/', '');
   expect('its pictures are whole', true, /^Whole: each of [0-9]{2,} pictures/.test(
     told('run-moments')));
   expect('each byte in time', 'In time: each byte.', told('run-halves'));
-  expect('in each run', 'Refused: 1 instruction may tear it, or can\'t be followed.',
-    told('every'));
+  expect('in each run', 'Refused: 1 instruction may tear a picture, or lead where this check '
+    + 'can\'t follow. Why:', told('every'));
   expect('in words', true, /^[0-9A-F]{4} \(\w+\+[0-9]+\): brk: the checker doesn't take BRK: it /
     .test(parts['every-lines'].textContent));
   const board = new Keeping(engine, bytes, shapes);
@@ -1123,6 +1124,112 @@ function playOnStage() {
   return { play: new Play(engine, games, driverOfPage()), parts, games };
 }
 
+// A verdict: its word, a slash and its text.
+function verdictOf(part) {
+  return [part.firstElementChild, part.lastElementChild].map(({ textContent }) => textContent)
+    .join('/');
+}
+
+// A program that goes on from 6800 after a reset; the NMI only returns.
+function programOf(code) {
+  const bytes = new Uint8Array(6144).fill(0xFF), rti = 0x7000;
+  bytes.set(code);
+  bytes[rti - 0x6800] = 0x40;
+  bytes.set([rti & 0xFF, rti >> 8, 0x00, 0x68, rti & 0xFF, rti >> 8], bytes.length - 6);
+  return bytes;
+}
+const JMP_SELF = [0x4C, 0x00, 0x68], STROBES = [0x8D, 0x02, 0x40, 0x8D, 0x00, 0x30, 0xA2, 0x00,
+  0xA0, 0x00, 0xC8, 0xD0, 0xFD, 0xE8, 0xD0, 0xFA, 0x4C, 0x00, 0x68];
+
+// Plays a program for some seconds; the three verdicts of the run, and their colours.
+function judgedOf({ play, parts }, bytes, seconds) {
+  play.begin('a program', { program: bytes, shapes: new Uint8Array(2048), labels: new Map() }, '');
+  play.run(seconds);
+  play.showTexts();
+  return ['run-moments', 'run-halves', 'run-left'].map((id) => (
+    `${verdictOf(parts[id])} ${parts[id].firstElementChild.className}`));
+}
+
+// Nothing is green of a program that never ran one instruction, or that draws no frame: one that
+// only waits, and one that stores and strobes, though word zero is no jump.
+function testNothingYet() {
+  const stage = playOnStage(), none = ['/No picture is finished yet. ', '/No byte is judged yet. '];
+  const nothing = [...none, '/No run is finished yet. '];
+  expect('no opcode', nothing, judgedOf(stage, programOf([0xFF]), 1));
+  expect('it stopped', true, /stopped: /.test(stage.parts['run-counts'].textContent));
+  expect('a program that waits', nothing, judgedOf(stage, programOf(JMP_SELF), 1));
+  const [picture, byte, runs] = judgedOf(stage, programOf(STROBES), 2);
+  expect('one without a frame', none, [picture, byte]);
+  expect('whose runs break off', true,
+    /^Broken off\/: [0-9]+ runs, by a fault of the list drawn\. bad$/.test(runs));
+  const { play, parts } = stage;
+  parts['game-wire'].setAttribute('aria-pressed', 'true');
+  play.begin('a program', { ...play.game, program: programOf(JMP_SELF) }, '');
+  play.takeGuess('on');
+  play.run(4);
+  expect('nothing comes of a change', 'You said: it goes on. Nothing has come of it yet: no run '
+    + 'has ended.', play.whatText);
+}
+
+// A board that counts its runs by itself, and keeps the numbers of those that a strobe abandoned.
+class Numbering extends KeptArcade {
+  countAnew() {
+    super.countAnew();
+    Object.assign(this, { began: 0, abandoned: [] });
+  }
+
+  tell(kind, ...more) {
+    if (kind === KIND.STARTED) {
+      if (this.running && this.began > 0) this.abandoned.push(this.began);
+      this.began++;
+    }
+    super.tell(kind, ...more);
+  }
+}
+
+// What is asked of a game's board, and what is answered: only what was counted.
+const ANSWERS = [
+  [{ game: 'board', wire: 'cut', beam: '8' },
+    /^It goes on: some runs are abandoned, the first of them run [0-9]+, as a strobe /],
+  [{ game: 'board', wire: 'cut', beam: '8', strobes: 'ignored' },
+    /^It goes on: strobes that came before HALT were ignored\.$/],
+  [{ game: 'asteroid_game', wire: 'cut', beam: '2' },
+    /^It goes on: some runs are abandoned, the first of them run [0-9]+, as a strobe /],
+  [{ game: 'bat', wire: 'cut', beam: '2' },
+    /^It goes on: it reads "done" at once, and yet each run came to HALT before the next strobe\./],
+  [{ game: 'asteroid_game', beam: '2' },
+    /^It goes on: each run came to HALT before the next strobe, as the wire is whole\.$/],
+  [{ game: 'test_rom', wire: 'cut' }, /^It goes dark: each strobe /],
+];
+
+// A question stays until it is taken; then comes the answer, which has the number of the first run
+// that was abandoned, if one was.
+function testAnswers() {
+  const { play, parts } = playOnStage();
+  play.boardOf = (bytes, shapes) => new Numbering(engine, bytes, shapes);
+  for (const [asked, wanted] of ANSWERS) {
+    const what = JSON.stringify(asked);
+    play.openState(asked);
+    play.run(12);
+    play.showTexts();
+    expect(`${what}: it is asked`, [false, 'What will come of it?'],
+      [parts.guesses.hidden, parts['what-text'].textContent]);
+    play.takeGuess(null);
+    const said = parts['what-text'].textContent, { abandoned, counts } = play.arcade;
+    expect(`${what}: no longer`, true, parts.guesses.hidden);
+    expect(`${what}: ${said}`, true, wanted.test(said));
+    expect(`${what}: how many runs are abandoned`, abandoned.length, counts.left);
+    const number = / run ([0-9]+), as a strobe came before HALT\.$/.exec(said)?.[1];
+    if (said.includes('abandoned')) expect('the first one', String(abandoned[0]), number);
+    if (abandoned.length > 0) expect('beside its verdict', `Abandoned/: ${abandoned.length} runs, `
+      + `as a strobe came before HALT; the first is run ${abandoned[0]}.`,
+    verdictOf(parts['run-left']));
+  }
+  play.changeBoard();
+  play.takeGuess('tears');
+  expect('the answer takes a while', 'You said: it tears. Watch it for 3 seconds.', play.whatText);
+}
+
 // A link to a game holds it and what is asked of its board: one that is built in by its name, one
 // that was dropped with its bytes and labels.
 async function testGameLinks() {
@@ -1176,7 +1283,11 @@ async function testGameFiles() {
       Buffer.from(game.shapes).toString('hex'));
     expect(`${what}: nothing is missing`, ['', true], [game.missing, game.hasShapes]);
   }
+  const [[, [zip]]] = zips, broken = Uint8Array.from(zip.bytes).fill(0xFF, 80, 90);
+  expect('a zip that is broken', 'game.zip: it can\'t be unpacked.',
+    await playOnStage().play.openFiles([{ name: 'game.zip', bytes: broken }]));
   expect('labels', [[0x6C71, 'draw']], [...gameOf([whole, labels]).labels]);
+  testFaultsOfFiles(whole, rom, sockets);
   expect('a socket alone', 'H2, J2', gameOf([sockets[0]]).missing);
   expect('a vector ROM alone', null, gameOf([rom]));
   for (const [what, file, wanted] of [['a program', bytes, true], ['EF2', sockets[0].bytes, true],
@@ -1184,6 +1295,40 @@ async function testGameFiles() {
     ['dvg.html', readFileSync(`${top}page/dvg.html`), false], ['a vector ROM', shapes, false],
     ['a dump', new Uint8Array(6144), false], ['a text', Buffer.from('labs 0 0 0'), false]]) {
     expect(`${what} is of a game`, wanted, isOfGame(file));
+  }
+}
+
+// A file that hasn't the length of what it is by its name is named, with both lengths; and so is a
+// vector ROM without its program. Files that are of use on the board are none of a game.
+function testFaultsOfFiles(whole, rom, sockets) {
+  const cut = ({ name, bytes }) => ({ name, bytes: bytes.slice(0, -1) });
+  const [ef2, h2, , np3] = sockets, dump = { name: 'h1.dump', bytes: new Uint8Array(4096) };
+  const text = { name: 'h2.txt', bytes: Buffer.from('labs 0 0 0') };
+  const larger = { name: 'rom', bytes: new Uint8Array(4096) };
+  const deluxe = { name: 'game.program', bytes: Uint8Array.from([...whole.bytes.slice(0, 2048),
+    ...whole.bytes]) };
+  for (const [what, files, wanted] of [
+    ['a short socket', [cut(ef2), ...sockets.slice(1)],
+      '035145-04e.ef2 has 2,047 bytes: a socket has 2,048.'],
+    ['a socket of the shapes', [...sockets.slice(0, 3), cut(np3)],
+      '035127-02.np3 has 2,047 bytes: a socket has 2,048.'],
+    ['one alone', [cut(h2)], '035144-04e.h2 has 2,047 bytes: a socket has 2,048.'],
+    ['a program', [cut(whole), rom],
+      'game.program has 6,143 bytes: a program has 6,144, or 8,192 for Asteroids Deluxe.'],
+    ['a vector ROM', [whole, cut(rom)],
+      'rom has 2,047 bytes: a vector ROM has 2,048, or 4,096 for Asteroids Deluxe.'],
+    ['a game', [whole, rom], ''], ['its sockets', sockets, ''], ['a dump alone', [dump], ''],
+    ['a text', [text, whole], ''], ['a larger game', [deluxe, larger], ''],
+    ['a dump beside a game', [whole, dump], 'h1.dump has 4,096 bytes: a socket has 2,048.']]) {
+    expect(`${what}: its length`, wanted, lengthFault(files));
+  }
+  const alone = ({ name }) => `${name} is a vector ROM, the shapes of a game. Its program isn't `
+    + 'among them: drop both at once.';
+  for (const [what, files, wanted] of [['shapes', [rom], alone(rom)], ['NP3', [np3], alone(np3)],
+    ['the larger shapes', [larger], alone(larger)], ['a game', [whole, rom], ''],
+    ['H2 and shapes', [h2, np3], ''], ['H2', [h2], ''], ['a dump', [dump], ''],
+    ['a text', [text], '']]) {
+    expect(`${what}: whether a program is missing`, wanted, romAlone(files));
   }
 }
 
@@ -1246,7 +1391,7 @@ const TESTS = [
   testJudges, testPast, testTornStrokes, testStrip,
   testMendedBoard, testRate, testBoard, testNmi,
   testGamepads, testSoundLatches, testSounding, testSpeaker, testSoundButton, testGamePage,
-  testMakePage, testGameLinks, testGameFiles, testOutlines,
+  testMakePage, testGameLinks, testNothingYet, testAnswers, testGameFiles, testOutlines,
 ];
 for (const test of TESTS) if (named.length === 0 || named.includes(test.name)) await test();
 end();
