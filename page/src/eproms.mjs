@@ -78,7 +78,8 @@ export function lengthFault(files) {
   for (const file of files) {
     const { name, bytes } = file, [part, least, most] = partNamed(file) ?? [];
     const isWrong = part !== undefined && ![least, most].includes(bytes.length);
-    if (!isWrong || isText(bytes) || !(isGame || kindOf(bytes) === 'unknown')) continue;
+    const isOther = bytes.length > 0 && isText(bytes);
+    if (!isWrong || isOther || !(isGame || kindOf(bytes) === 'unknown')) continue;
     const deluxe = most === undefined ? '' : `, or ${grouped(most)} for Asteroids Deluxe`;
     return `${name} has ${grouped(bytes.length)} bytes: ${part} has ${grouped(least)}${deluxe}.`;
   }

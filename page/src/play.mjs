@@ -225,6 +225,7 @@ export class Play extends Player {
       return `some runs are abandoned, the first of them run ${counts.firstLeft}, as a strobe came `
         + 'before HALT.';
     }
+    if (counts.broke > 0) return 'some runs are broken off, by a fault of the list drawn.';
     if (counts.early > 0) return 'bytes came early, but no picture is torn.';
     if (counts.ignored > 0) return 'strobes that came before HALT were ignored.';
     if (!wireCut) return 'each run came to HALT before the next strobe, as the wire is whole.';

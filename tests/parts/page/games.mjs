@@ -1225,6 +1225,9 @@ function testAnswers() {
       + `as a strobe came before HALT; the first is run ${abandoned[0]}.`,
     verdictOf(parts['run-left']));
   }
+  Object.assign(play.arcade.counts, { broke: 1, left: 0, pictures: 9 });
+  expect('runs that break off are told', 'It goes on: some runs are broken off, by a fault of the '
+    + 'list drawn.', play.whatText);
   play.changeBoard();
   play.takeGuess('tears');
   expect('the answer takes a while', 'You said: it tears. Watch it for 3 seconds.', play.whatText);
@@ -1312,6 +1315,8 @@ function testFaultsOfFiles(whole, rom, sockets) {
       '035145-04e.ef2 has 2,047 bytes: a socket has 2,048.'],
     ['a socket of the shapes', [...sockets.slice(0, 3), cut(np3)],
       '035127-02.np3 has 2,047 bytes: a socket has 2,048.'],
+    ['an empty one', [{ ...ef2, bytes: new Uint8Array(0) }, h2, np3],
+      '035145-04e.ef2 has 0 bytes: a socket has 2,048.'],
     ['one alone', [cut(h2)], '035144-04e.h2 has 2,047 bytes: a socket has 2,048.'],
     ['a program', [cut(whole), rom],
       'game.program has 6,143 bytes: a program has 6,144, or 8,192 for Asteroids Deluxe.'],
