@@ -266,16 +266,18 @@ def written_content(folder, law, crate, of, name, title, brought):
     return function
 
 
-def written(folder, crate, name, law):
-    """Writes a law into the crate in a folder, under this name; gives the name of its function."""
+def written(folder, crate, name, law, answers=True):
+    """Writes a law into the crate in a folder, under this name, with its answers unless src/lib.rt
+    there names the lemma; gives the name of its function."""
     program, notes, start, title, accepted = law
     low = re.sub('(?<!^)(?=[A-Z])', '_', name).lower()
     function = f'{low}_is_safe' if accepted else f'{low}_is_told'
     lemma = 'runs_safely' if accepted else 'is_told'
     texts = {f'specs/{name}.antt': specs(program, notes, start, title, accepted),
-             f'proofs/{name}.antt': proof(crate, name, accepted),
-             f'proofs/{function}/Answers.antt': ANSWERS.format(
-                 crate=crate, name=name, function=function, lemma=lemma)}
+             f'proofs/{name}.antt': proof(crate, name, accepted)}
+    if answers:
+        texts[f'proofs/{function}/Answers.antt'] = ANSWERS.format(
+            crate=crate, name=name, function=function, lemma=lemma)
     for path, text in texts.items():
         os.makedirs(os.path.dirname(f'{folder}/{path}'), exist_ok=True)
         with open(f'{folder}/{path}', 'w', encoding='utf-8') as file:
