@@ -733,6 +733,12 @@ async function testFiles() {
   await tab.key('Home');
   for (let k = 0; k < 11; k++) await tab.key('ArrowRight');
   expect('its run is walked', 'VCTR', (await textsOf('#file-lines .now')).join().slice(4, 8));
+  const hole = new Uint8Array(4096);
+  hole.set([1, 0xE0, 0, 0xE4]);
+  await tab.drop('screen', put('hole.dump', hole));
+  await comesWith('file-title', 'The dump hole.dump');
+  expect('a run that leaves the memory', runProgram(['picture', '--all'], hole).trim(),
+    (await textsOf('#file-lines span')).join('\n'));
   await tab.click('file-close');
   expect('the board is back', /^Picture /, await tab.text('picture-text'));
   const bus = '0.1,W,4001,E0\n0.2,W,3000,00\n0.3,W,4002,64\n';
@@ -772,6 +778,44 @@ async function testFiles() {
     true, await comes('saidA', 'ok 3 words 4 fetches'));
   await tab.choose('exampleB', 'rom_shapes');
   expect('an example with a ROM', /^ok /, await tab.text('saidB'));
+}
+
+// Files that the three buttons open come to the same as those that are dropped; the button for a
+// ROM takes the larger one, too, which is a dump elsewhere. A ROM that is typed is the board's.
+async function testChosen() {
+  await openPage();
+  const { root } = await tab.send('DOM.getDocument');
+  const choose = async (id, files) => {
+    const { nodeId } = await tab.send('DOM.querySelector', { nodeId: root.nodeId, selector: id });
+    await tab.send('DOM.setFileInputFiles', { nodeId, files });
+  };
+  await choose('#open', [`${top}examples/logs/tears.log`]);
+  await comesWith('file-title', 'The log tears.log');
+  expect('a log is opened', VERDICTS.early, await verdicts());
+  const rom = new Uint8Array(4096).fill(0xD0);
+  rom.set([0, 0xB0]);
+  await choose('#open', [put('some.rom', rom)]);
+  await comesWith('file-title', 'The dump some.rom');
+  await choose('#open-rom', [put('some.rom', rom)]);
+  expect('a larger ROM is loaded', true, await comesWith('file-text', 'The ROM was loaded'));
+  expect('and is the board\'s', /^4096 bytes/, await tab.text('rom-said'));
+  const draft = 'labs 0 0 0\njumprom 400\n', typed = 'rom 800 A064 B000 B000\n';
+  await set('textA', draft);
+  expect('a draft may use it', 'ok 3 words 5 fetches', await tab.text('saidA'));
+  await tab.click('once');
+  await set('textR', typed);
+  expect('a ROM that is typed is smaller', 'ok 2048 bytes, words 800 to BFF',
+    await tab.text('saidR'));
+  expect('the board begins anew with it', /^2048 bytes/, await tab.text('rom-said'));
+  expect('without its events', /^Before the first /, await tab.text('moment-text'));
+  const checked = (text) => runProgram(['check', '--bound'], typed + text).trim();
+  expect('the draft is checked over it', true,
+    (await tab.text('saidA')).includes(checked(draft)));
+  await set('textA', draft.replace('400', '800'));
+  expect('and another one', checked(draft.replace('400', '800')), await tab.text('saidA'));
+  await choose('#open-game', filesOfGame(1));
+  await expectSoon('a game runs', /^Whole: each of [0-9]{2,} pictures\.$/,
+    () => tab.text('run-moments'));
 }
 
 // What is dropped, by its name, what the panel says of it, and whether that is bad.
@@ -2055,6 +2099,7 @@ async function testStrip() {
   const before = await drawn();
   await expectSoon('they go on', true, async () => before !== await drawn());
   expect('there is no byte to show', true, await isHidden('show-byte'));
+  await tab.until('/, [2-9]\\.[0-9] s/.test(document.getElementById("run-counts").textContent)');
   await tab.value('document.getElementById("past").focus()');
   await tab.key('ArrowLeft');
   expect('a key lets the game rest', 'Play', await tab.text('pause'));
@@ -2072,10 +2117,35 @@ async function testStrip() {
   await tab.clickAt(left + width / 4, y + height / 2);
   const shown = await tab.text('past-text');
   expect('a click shows another moment', true, shown !== told && shown.startsWith('At '));
+  await testZoomOfGame({ left, y: y + height / 2, width });
   await tab.click('pause');
   expect('it goes on', 'Pause', await tab.text('pause'));
   expect('and nothing is told', '', await tab.text('past-text'));
   await testByteOfGame();
+}
+
+// The rows of a game that rests: between two places there is half as long after the key +, as long
+// again after -, four fifths after a turn of the wheel with Ctrl; and a drag brings what was aside.
+async function testZoomOfGame({ left, y, width }) {
+  const slotAt = async (part) => {
+    await tab.clickAt(left + part * width, y);
+    return Number(await tab.value('document.getElementById("past").ariaValueNow'));
+  };
+  const spanOf = async () => await slotAt(0.75) - await slotAt(0.25);
+  const span = await spanOf();
+  const isPart = async (part) => Math.abs(await spanOf() - part * span) <= 2;
+  expect('the rows have many slots', true, span > 100);
+  await tab.key('+');
+  expect('the key + shows half of them', true, await isPart(0.5));
+  await tab.key('-');
+  expect('and - all of them', true, await isPart(1));
+  await tab.mouse('mouseWheel', left + width / 2, y, { deltaX: 0, deltaY: -100, modifiers: 2 });
+  expect('the wheel with Ctrl fewer', true, await isPart(0.8));
+  const before = await slotAt(0.75);
+  await tab.mouse('mousePressed', left + width * 0.75, y, { button: 'left', clickCount: 1 });
+  await tab.mouse('mouseMoved', left + width / 2, y, { button: 'left', buttons: 1 });
+  await tab.mouse('mouseReleased', left + width / 2, y, { button: 'left', clickCount: 1 });
+  expect('a drag moves the rows', true, Math.abs(await slotAt(0.5) - before) <= 2);
 }
 
 // The byte that tears a picture is shown with its instruction: the game rests, and on the tube is
@@ -2393,7 +2463,7 @@ async function testSlowed() {
 const tests = {
   testBeginning, testOpening, testTyping, testExamples, testSketches, testStepping, testAbandoned,
     testOneByOne, testSeeds, testCutWire, testRunning, testLessons, testLessonKeys,
-    testOneHalf, testLink, testFiles, testDrops, testUnjudged, testLongLog,
+    testOneHalf, testLink, testFiles, testChosen, testDrops, testUnjudged, testLongLog,
   testHttp, testInView, testGrey, testCode, testTour, testMend,
     testWidths, testSmall, testEmbed, testColors, testMotion, testKeys, testRows, testOnAndOn,
     testEdges,

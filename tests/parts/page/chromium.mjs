@@ -101,7 +101,7 @@ class Chromium {
 const KEYS = {
   Tab: [9, ''], Enter: [13, '\r'], ' ': [32, ' '], ArrowLeft: [37, ''], ArrowUp: [38, ''],
     ArrowRight: [39, ''],
-  ArrowDown: [40, ''], Home: [36, ''], End: [35, ''],
+  ArrowDown: [40, ''], Home: [36, ''], End: [35, ''], '+': [187, '+'], '-': [189, '-'],
 };
 
 function faultOf({ exception, text }) {
