@@ -1,8 +1,11 @@
 // A Chromium without a screen, asked by its own protocol over a pipe: what tests/page needs of it.
 import { spawn } from 'node:child_process';
-import { mkdtempSync, rmSync } from 'node:fs';
+import { mkdtempSync, rmSync, writeFileSync } from 'node:fs';
 import { tmpdir } from 'node:os';
 import { join } from 'node:path';
+
+// Where it is kept what ran of the page's script, if anywhere: tests/coverage reads it.
+const COVERAGE = process.env.NODE_V8_COVERAGE;
 
 // How long something is waited for, in milliseconds: long, as a machine may be busy.
 const WAIT = 120000;
@@ -32,7 +35,8 @@ export async function startChromium(name) {
 
 class Chromium {
   constructor(child, profile) {
-    Object.assign(this, { child, profile, asked: new Map(), count: 0, heard: () => {} });
+    Object.assign(this, { child, profile, asked: new Map(), count: 0, heard: () => {},
+      tabs: [] });
     let rest = '';
     child.stdio[4].setEncoding('utf8');
     child.stdio[4].on('data', (text) => {
@@ -78,10 +82,16 @@ class Chromium {
     for (const domain of ['Page', 'Runtime', 'Network', 'Log']) await tab.send(`${domain}.enable`);
     // What a thread is measured by is the time that it gets of a processor.
     await tab.send('Performance.enable', { timeDomain: 'threadTicks' });
+    this.tabs.push(tab);
+    if (COVERAGE) {
+      await tab.send('Profiler.enable');
+      await tab.send('Profiler.startPreciseCoverage', { callCount: true, detailed: true });
+    }
     return tab;
   }
 
   async stop() {
+    for (const tab of this.tabs) await tab.keepCoverage();
     await this.end(() => this.send('Browser.close').catch(() => this.child.kill('SIGKILL')));
   }
 
@@ -113,7 +123,17 @@ class Tab {
     Object.assign(this, { browser, sessionId, targetId, requests: [], faults: [] });
   }
 
+  // Writes which parts of the scripts ran since this was asked last.
+  async keepCoverage() {
+    if (!COVERAGE) return;
+    const told = await this.send('Profiler.takePreciseCoverage');
+    writeFileSync(`${COVERAGE}/browser-${process.pid}-${this.browser.count}.json`,
+      JSON.stringify(told));
+  }
+
   async close() {
+    await this.keepCoverage();
+    this.browser.tabs = this.browser.tabs.filter((one) => one !== this);
     await this.browser.send('Target.closeTarget', { targetId: this.targetId });
   }
 
@@ -157,6 +177,7 @@ class Tab {
   }
 
   async open(url) {
+    await this.keepCoverage();
     await this.send('Page.navigate', { url: 'about:blank' });
     await this.send('Page.navigate', { url });
     const ready = await this.until('document.body?.dataset.ready === "yes"');
