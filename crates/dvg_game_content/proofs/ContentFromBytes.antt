@@ -29,9 +29,9 @@ use Rattle.dvg_game_6502.proofs.OnLog.{on_log}
 use Rattle.dvg_game_6502.proofs.Outside.{driver_turns, game_turns, nmi_turns}
 use Rattle.dvg_game_6502.proofs.Returns.{driver_returns, ret_is}
 use Rattle.dvg_game_6502.proofs.Stages.{InDriver, InGame, InNmi, IsAccepted, Stage}
-use Rattle.dvg_game_content.specs.Brings.{Known, Any, Is, Under, By, Ways, brings, brought_to, fact, far, for_each, is_leap, of_each}
+use Rattle.dvg_game_content.specs.Brings.{Known, Any, Is, Under, By, Ways, brings_by, brought_by, fact, far, for_each, is_leap, of_each}
 use Rattle.dvg_game_content.specs.Words.{may_offer, may_put}
-use Rattle.dvg_game_content.specs.Law.{ContentByBytes}
+use Rattle.dvg_game_content.specs.Law.{ContentByBytes, ContentByTests, IsTableAt, IsWordOf}
 use Rattle.dvg_game_content.proofs.InstructionLearns.{IsKnown, HoldsAt}
 use Rattle.dvg_game_content.proofs.Landing.{Noted, kind_there, noted_run, word_there}
 use Rattle.dvg_game_content.proofs.RegistersKnown.{Mine, Told, mine_begins, mine_nmi, mine_returns, mine_steps, mine_turns}
@@ -60,26 +60,27 @@ or_else : (t u : Bool) → t ≡ true → (not t || u) ≡ true → u ≡ true
 or_else true u is fine = fine
 or_else false u is fine = absurd (cc)
 
-module _ (R : List ℕ) (rom : ℕ → ℕ) (start : ℕ) (notes : Notes) (ways : Ways) (drafts : ℕ → List OpKind)
-    (accepted : accepts rom start notes ≡ true) (brought : brings R rom start notes ways drafts ≡ true) where
+module _ (R : List ℕ) (rom : ℕ → ℕ) (start : ℕ) (notes : Notes) (ways : Ways) (offers : ℕ → Bool) (puts : ℕ → ℕ → Bool)
+    (accepted : accepts rom start notes ≡ true) (brought : brings_by offers puts rom start notes ways ≡ true)
+    (offered : (t : ℕ) → offers t ≡ true → IsTableAt R rom t) (put : (a x : ℕ) → a < 256 → puts a x ≡ true → IsWordOf R a x) where
   -- what a call of the driver brings
   pub record Bringing (cpu : Cpu) : Type 0 where
-    pub offers : word_at cpu.mem (cpu.pc + 1) ≡ dvg_offer → IsTable R rom cpu
-    pub puts : word_at cpu.mem (cpu.pc + 1) ≡ dvg_put → IsWord R cpu
+    pub tables : word_at cpu.mem (cpu.pc + 1) ≡ dvg_offer → IsTable R rom cpu
+    pub words : word_at cpu.mem (cpu.pc + 1) ≡ dvg_put → IsWord R cpu
     pub no_pair : word_at cpu.mem (cpu.pc + 1) ≡ dvg_pair → ⊥
 
-  bringing : (cpu : Cpu) (since : ℕ) → Mine R rom start notes ways drafts accepted brought cpu since → IsByteWide cpu
+  bringing : (cpu : Cpu) (since : ℕ) → Mine R rom start notes ways offers puts accepted brought cpu since → IsByteWide cpu
       → Play.restarts cpu ≡ false → calling (kind_of (cpu.mem cpu.pc)) (idle cpu) ≡ true → Bringing cpu
   bringing cpu since m bytes go is = record {
-    offers = λ to.
-        let t = may_offer_is R rom drafts (cpu.a + 256 * cpu.x) (each (λ a x. may_offer R rom drafts (a + 256 * x))
-        (subst (λ w. brought_to R rom drafts (fact ways rom far cpu.pc) w ≡ true) (word ∙ to) all)) in
-        record { draft = drafts (cpu.a + 256 * cpu.x); table = t.table; low = t.low; ends = t.ends; checked = t.checked };
-    puts = λ to.
-        let w = may_is R cpu.a cpu.x bytes.a (each (may_put R)
-        (subst (λ w. brought_to R rom drafts (fact ways rom far cpu.pc) w ≡ true) (word ∙ to) all)) in
+    tables = λ to.
+        let t = offered (cpu.a + 256 * cpu.x) (each (λ a x. offers (a + 256 * x))
+        (subst (λ w. brought_by offers puts (fact ways rom far cpu.pc) w ≡ true) (word ∙ to) all)) in
+        record { draft = t.draft; table = t.table; low = t.low; ends = t.ends; checked = t.checked };
+    words = λ to.
+        let w = put cpu.a cpu.x bytes.a (each puts
+        (subst (λ w. brought_by offers puts (fact ways rom far cpu.pc) w ≡ true) (word ∙ to) all)) in
         record { op = w.op; word = w.word; put = w.put; is_op = w.is_op };
-    no_pair = λ to. let e = subst (λ w. brought_to R rom drafts (fact ways rom far cpu.pc) w ≡ true) (word ∙ to) all
+    no_pair = λ to. let e = subst (λ w. brought_by offers puts (fact ways rom far cpu.pc) w ≡ true) (word ∙ to) all
         in cc;
   }
     where
@@ -91,19 +92,19 @@ module _ (R : List ℕ) (rom : ℕ → ℕ) (start : ℕ) (notes : Notes) (ways 
           (checked_is_safe rom start notes accepted (of_cpu cpu m.st) m.run).next
           (sym (restarts_same cpu m.st) ∙ go) is_there
 
-      n : Noted R rom start notes ways drafts accepted brought (of_cpu cpu m.st)
-      n = noted_run R rom start notes ways drafts accepted brought m.run
+      n : Noted R rom start notes ways offers puts accepted brought (of_cpu cpu m.st)
+      n = noted_run R rom start notes ways offers puts accepted brought m.run
 
       word : word_at rom (cpu.pc + 1) ≡ word_at cpu.mem (cpu.pc + 1)
-      word = word_there R rom start notes ways drafts accepted brought (of_cpu cpu m.st) n
+      word = word_there R rom start notes ways offers puts accepted brought (of_cpu cpu m.st) n
 
-      all : brought_to R rom drafts (fact ways rom far cpu.pc) (word_at rom (cpu.pc + 1)) ≡ true
+      all : brought_by offers puts (fact ways rom far cpu.pc) (word_at rom (cpu.pc + 1)) ≡ true
       all = or_else (is_leap (kind_of (rom cpu.pc))) _
-          (ap is_leap (kind_there R rom start notes ways drafts accepted brought (of_cpu cpu m.st) n)
+          (ap is_leap (kind_there R rom start notes ways offers puts accepted brought (of_cpu cpu m.st) n)
           ∙ leap_is (kind_of (cpu.mem cpu.pc)) (by_leap (kind_of (cpu.mem cpu.pc)) (of_cpu cpu m.st) is_there)) n.brings
 
       holds : HoldsAt (fact ways rom far cpu.pc) cpu
-      holds = (subst (λ o. Told R rom start notes ways drafts accepted brought o cpu) called.program m.told) far
+      holds = (subst (λ o. Told R rom start notes ways offers puts accepted brought o cpu) called.program m.told) far
 
       each : (p : ℕ → ℕ → Bool) → of_each (fact ways rom far cpu.pc) p ≡ true → p cpu.a cpu.x ≡ true
       each p fine = each_is (fact ways rom far cpu.pc).a (fact ways rom far cpu.pc).x (fact ways rom far cpu.pc).most p
@@ -117,7 +118,7 @@ module _ (R : List ℕ) (rom : ℕ → ℕ) (start : ℕ) (notes : Notes) (ways 
 
   -- a play stands somewhere, and in the game it is known what is brought
   abbrev Extra : {cpu : Cpu} {since : ℕ} {log : List Access} → Stage R B rom start cpu since log → Type 0
-  Extra {cpu} {since} (inl g) = Mine R rom start notes ways drafts accepted brought cpu since
+  Extra {cpu} {since} (inl g) = Mine R rom start notes ways offers puts accepted brought cpu since
   Extra (inr other) = Unit {0}
 
   abbrev Known_stage : Cpu → ℕ → List Access → Type 0
@@ -127,25 +128,25 @@ module _ (R : List ℕ) (rom : ℕ → ℕ) (start : ℕ) (notes : Notes) (ways 
   stage (begins cpu since is) = (
     inl (game_begins R B rom start cpu since [] [] (refl, inl refl)
         (λ b low high. absurd (omega (arith, high))) is),
-    mine_begins R rom start notes ways drafts accepted brought cpu since is,
+    mine_begins R rom start notes ways offers puts accepted brought cpu since is,
   )
   stage (does {cpu} {since} {log} flags play go small) = let before = stage play in
       by before (stage_bytes game flags small before.0)
     where
-      in_game : (g : InGame R B rom start cpu since log) → Mine R rom start notes ways drafts accepted brought cpu since
+      in_game : (g : InGame R B rom start cpu since log) → Mine R rom start notes ways offers puts accepted brought cpu since
           → IsByteWide (done flags cpu) → (t : Bool) → calling (kind_of (cpu.mem cpu.pc)) (idle cpu) ≡ t
           → Known_stage (done flags cpu) (suc since) (made cpu (done flags cpu) ++ log)
       in_game g m bytes false is = (
         inl (subst (λ l. InGame R B rom start (done flags cpu) (suc since) (l ++ log))
             (sym (made_none cpu (done flags cpu) (nowhere game g)))
             (game_steps game g flags go (sym (calls_as (kind_of (cpu.mem cpu.pc)) cpu g.st) ∙ is) bytes)),
-        mine_steps R rom start notes ways drafts accepted brought cpu since m g.bytes flags go
+        mine_steps R rom start notes ways offers puts accepted brought cpu since m g.bytes flags go
             (sym (calls_as (kind_of (cpu.mem cpu.pc)) cpu m.st) ∙ is) bytes,
       )
       in_game g m bytes true is = let b = bringing cpu since m g.bytes go is in (
         inr (inl (subst (λ l. InDriver R B rom start (done flags cpu) (l ++ log))
             (sym (made_none cpu (done flags cpu) (nowhere game g)))
-            (game_calls game g go (sym (calls_as (kind_of (cpu.mem cpu.pc)) cpu g.st) ∙ is) flags bytes b.offers b.puts
+            (game_calls game g go (sym (calls_as (kind_of (cpu.mem cpu.pc)) cpu g.st) ∙ is) flags bytes b.tables b.words
             b.no_pair))),
         tt,
       )
@@ -162,8 +163,8 @@ module _ (R : List ℕ) (rom : ℕ → ℕ) (start : ℕ) (notes : Notes) (ways 
                 (subst (λ (k : Cpu). made cpu (done flags cpu) ++ log ≡ seen k.log ++ log) same (shows d)))
                 (subst (λ k. InGame R B rom start k (suc since) log) (sym same)
                 (driver_returns game d is since flags (subst IsByteWide same bytes)))),
-            subst (λ k. Mine R rom start notes ways drafts accepted brought k (suc since)) (sym same)
-                (mine_returns R rom start notes ways drafts accepted brought game cpu log d is since flags
+            subst (λ k. Mine R rom start notes ways offers puts accepted brought k (suc since)) (sym same)
+                (mine_returns R rom start notes ways offers puts accepted brought game cpu log d is since flags
                 (subst IsByteWide same bytes)),
           )
 
@@ -194,7 +195,7 @@ module _ (R : List ℕ) (rom : ℕ → ℕ) (start : ℕ) (notes : Notes) (ways 
       by : Known_stage cpu since log → Known_stage (interrupted cpu) 0 log
       by (inl g, m) = (
         inl (game_nmi game g late),
-        mine_nmi R rom start notes ways drafts accepted brought cpu since m g.bytes late,
+        mine_nmi R rom start notes ways offers puts accepted brought cpu since m g.bytes late,
       )
       by (inr (inl d), none) = (inr (inr (driver_nmi game d)), tt)
       by (inr (inr n), none) = absurd (nmi_alone game n late)
@@ -203,7 +204,7 @@ module _ (R : List ℕ) (rom : ℕ → ℕ) (start : ℕ) (notes : Notes) (ways 
       by : Known_stage cpu since log → Known_stage (changed mem cpu) since log
       by (inl g, m) = (
         inl (game_turns R B rom start cpu since log mem small same g),
-        mine_turns R rom start notes ways drafts accepted brought cpu since m g.bytes mem same,
+        mine_turns R rom start notes ways offers puts accepted brought cpu since m g.bytes mem same,
       )
       by (inr (inl d), none) = (inr (inl (driver_turns R B rom start cpu since log mem small same d)), tt)
       by (inr (inr n), none) = (inr (inr (nmi_turns R B rom start cpu since log mem small same n)), tt)
@@ -233,11 +234,18 @@ module _ (R : List ℕ) (rom : ℕ → ℕ) (start : ℕ) (notes : Notes) (ways 
 
   pub content : Content R rom start
   content = record {
-    tables = λ play enters. let c = comes play dvg_offer enters in c.0.offers c.1;
-    words = λ play enters. let c = comes play dvg_put enters in c.0.puts c.1;
+    tables = λ play enters. let c = comes play dvg_offer enters in c.0.tables c.1;
+    words = λ play enters. let c = comes play dvg_put enters in c.0.words c.1;
     no_pair = λ play enters. let c = comes play dvg_pair enters in c.0.no_pair c.1;
   }
 
+pub content_by_tests : ContentByTests
+content_by_tests R rom start notes ways offers puts accepted brought offered put =
+    content R rom start notes ways offers puts accepted brought offered put
+
 pub content_by_bytes : ContentByBytes
 content_by_bytes R rom start notes ways drafts accepted brought =
-    content R rom start notes ways drafts accepted brought
+    content R rom start notes ways (may_offer R rom drafts) (may_put R) accepted brought
+    (λ t is. let o = may_offer_is R rom drafts t is in
+    record { draft = drafts t; table = o.table; low = o.low; ends = o.ends; checked = o.checked })
+    (λ a x small is. let w = may_is R a x small is in record { op = w.op; word = w.word; put = w.put; is_op = w.is_op })

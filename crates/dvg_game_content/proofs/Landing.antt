@@ -19,7 +19,7 @@ use Rattle.dvg_game_rules.proofs.Memory.{either, left_stack}
 use Rattle.dvg_game_rules.proofs.RunInvariant.{Good, Handles, Runs, low}
 use Rattle.dvg_game_rules.proofs.SafeSteps.{checked, vector}
 use Rattle.dvg_game_rules.proofs.RunsAreSafe.{checked_is_safe, good_run}
-use Rattle.dvg_game_content.specs.Brings.{Ways, brings, brings_at, brought_to, fact, fact_by, flows, is_free, is_leap}
+use Rattle.dvg_game_content.specs.Brings.{Ways, brings_by, brings_at, brought_by, fact, fact_by, flows, is_free, is_leap}
 use Rattle.dvg_game_content.specs.Brings.{next, passes_on, far}
 use Rattle.dvg_game_content.proofs.InstructionLearns.{HoldsAt, holds_nothing}
 
@@ -112,8 +112,8 @@ module _ (ways : Ways) (rom : ℕ → ℕ) where
   plain_does Finish choice st word fine is = home_plain st.home _ is
   plain_does Wild choice st word fine is = is
 
-module _ (R : List ℕ) (rom : ℕ → ℕ) (start : ℕ) (notes : Notes) (ways : Ways) (drafts : ℕ → List OpKind)
-    (accepted : accepts rom start notes ≡ true) (brought : brings R rom start notes ways drafts ≡ true) where
+module _ (R : List ℕ) (rom : ℕ → ℕ) (start : ℕ) (notes : Notes) (ways : Ways) (offers : ℕ → Bool) (puts : ℕ → ℕ → Bool)
+    (accepted : accepts rom start notes ≡ true) (brought : brings_by offers puts rom start notes ways ≡ true) where
   pub accepted_game : accepts_game rom start notes ≡ true
   accepted_game = (both_true (accepts_game rom start notes) _ accepted).0
 
@@ -121,15 +121,15 @@ module _ (R : List ℕ) (rom : ℕ → ℕ) (start : ℕ) (notes : Notes) (ways 
   good run = good_run rom start notes accepted_game run
 
   -- what was looked at
-  pub looked : (at : ℕ) (now : Note) → noted notes at ≡ Some now → brings_at R rom ways drafts at (Some now) ≡ true
+  pub looked : (at : ℕ) (now : Note) → noted notes at ≡ Some now → brings_at offers puts rom ways at (Some now) ≡ true
   looked at now is =
       let here = within notes at now is in
       let low = here.0 in
       let high = here.1 in
       let back : first + (at - first) ≡ at = omega (arith, low) in
-      subst (λ n. brings_at R rom ways drafts at n ≡ true) is
-      (subst (λ at. brings_at R rom ways drafts at (noted notes at) ≡ true) back
-      (under places (λ i. brings_at R rom ways drafts (first + i) (noted notes (first + i)))
+      subst (λ n. brings_at offers puts rom ways at n ≡ true) is
+      (subst (λ at. brings_at offers puts rom ways at (noted notes at) ≡ true) back
+      (under places (λ i. brings_at offers puts rom ways (first + i) (noted notes (first + i)))
       (both_true (is_free ways start) _ brought).1 (at - first) (omega (arith, low, high))))
 
   pub start_free : is_free ways start ≡ true
@@ -143,7 +143,7 @@ module _ (R : List ℕ) (rom : ℕ → ℕ) (start : ℕ) (notes : Notes) (ways 
     pub loaded : IsLoaded rom st.mem
     pub flow : flows ways rom st.pc (kind_of (rom st.pc)) ≡ true
     pub brings : (not (is_leap (kind_of (rom st.pc)))
-        || brought_to R rom drafts (fact ways rom far st.pc) (word_at rom (st.pc + 1))) ≡ true
+        || brought_by offers puts (fact ways rom far st.pc) (word_at rom (st.pc + 1))) ≡ true
 
   pub noted_run : {st : State} → IsRun rom start st → Noted st
   noted_run {st} run = by (good run).stage

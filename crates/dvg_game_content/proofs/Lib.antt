@@ -2,5 +2,5 @@ mod Frames
 mod InstructionLearns
 mod Landing
 mod RegistersKnown
-mod Words
+pub mod Words
 pub mod ContentFromBytes

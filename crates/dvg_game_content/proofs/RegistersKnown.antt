@@ -27,7 +27,7 @@ use Rattle.dvg_game_6502.proofs.NmiSteps.{flags_back}
 use Rattle.dvg_game_6502.proofs.OnLog.{on_log}
 use Rattle.dvg_game_6502.proofs.Returns as returning
 use Rattle.dvg_game_6502.proofs.Stages.{InDriver, IsAccepted}
-use Rattle.dvg_game_content.specs.Brings.{Ways, brings, fact, flows, is_free, next, passes_on}
+use Rattle.dvg_game_content.specs.Brings.{Ways, brings_by, fact, flows, is_free, next, passes_on}
 use Rattle.dvg_game_content.proofs.InstructionLearns.{Holds, HoldsAt, advances, by_opcode}
 use Rattle.dvg_game_content.proofs.Landing.{Lands, Noted, Plain, Returned, driver_back, flow_there, free_lands, goes_on, kind_there}
 use Rattle.dvg_game_content.proofs.Landing.{noted_run, plain, start_free, word_there}
@@ -40,8 +40,8 @@ home_out : (home : Option (ℕ × ℕ)) (st : State) → home ≡ None → st.am
 home_out None st is out = out
 home_out (Some place) st is out = absurd (cc)
 
-module _ (R : List ℕ) (rom : ℕ → ℕ) (start : ℕ) (notes : Notes) (ways : Ways) (drafts : ℕ → List OpKind)
-    (accepted : accepts rom start notes ≡ true) (brought : brings R rom start notes ways drafts ≡ true) where
+module _ (R : List ℕ) (rom : ℕ → ℕ) (start : ℕ) (notes : Notes) (ways : Ways) (offers : ℕ → Bool) (puts : ℕ → ℕ → Bool)
+    (accepted : accepts rom start notes ≡ true) (brought : brings_by offers puts rom start notes ways ≡ true) where
   -- all that is known where the game stands, or where the NMI came that it is in
   abbrev pub Told : Option Came → Cpu → Type 0
   Told None cpu = Lands ways rom cpu
@@ -62,21 +62,21 @@ module _ (R : List ℕ) (rom : ℕ → ℕ) (start : ℕ) (notes : Notes) (ways 
     homeless = refl;
     time = refl;
     told = free_lands ways rom cpu
-        (ap (is_free ways) is.entry ∙ start_free R rom start notes ways drafts accepted brought) is.bytes.y;
+        (ap (is_free ways) is.entry ∙ start_free R rom start notes ways offers puts accepted brought) is.bytes.y;
   }
 
   module _ (cpu : Cpu) (since : ℕ) (m : Mine cpu since) (bytes : IsByteWide cpu) where
     abbrev pub here : State
     here = of_cpu cpu m.st
 
-    pub at : Noted R rom start notes ways drafts accepted brought here
-    at = noted_run R rom start notes ways drafts accepted brought m.run
+    pub at : Noted R rom start notes ways offers puts accepted brought here
+    at = noted_run R rom start notes ways offers puts accepted brought m.run
 
     pub safe : IsSafe rom here
     safe = checked_is_safe rom start notes accepted here m.run
 
     word : word_at rom (cpu.pc + 1) ≡ word_at cpu.mem (cpu.pc + 1)
-    word = word_there R rom start notes ways drafts accepted brought here at
+    word = word_there R rom start notes ways offers puts accepted brought here at
 
     operand : cpu.mem (cpu.pc + 1) ≡ rom (cpu.pc + 1)
     operand = first_there rom cpu.mem cpu.pc at.loaded at.at
@@ -178,7 +178,7 @@ module _ (R : List ℕ) (rom : ℕ → ℕ) (start : ℕ) (notes : Notes) (ways 
               else called (word_at cpu.mem (cpu.pc + 1)) (ticked here)).pc) out
       lands_by Return is choice alike flow go calls more safe = free_lands ways rom new
           (ap (is_free ways) (sym alike.pc) ∙ (subst (Plain ways rom) safe.1
-          (plain R rom start notes ways drafts accepted brought m.run)).0) after.y
+          (plain R rom start notes ways offers puts accepted brought m.run)).0) after.y
       lands_by _ is choice alike flow go calls more safe = absurd (cc)
 
     -- an instruction of the game, or of an NMI that came amid it
@@ -198,8 +198,8 @@ module _ (R : List ℕ) (rom : ℕ → ℕ) (start : ℕ) (notes : Notes) (ways 
         not_yet : is_finish (kind_of (cpu.mem cpu.pc)) ≡ false → (o : Option Came) → m.st.amid ≡ o → Told o cpu
             → Told o (done flags cpu)
         not_yet more None out told = lands_by flags after told (kind_of (cpu.mem cpu.pc))
-            (kind_there R rom start notes ways drafts accepted brought here at) did.choice did.alike
-            (flow_there R rom start notes ways drafts accepted brought here at)
+            (kind_there R rom start notes ways offers puts accepted brought here at) did.choice did.alike
+            (flow_there R rom start notes ways offers puts accepted brought here at)
             (sym (restarts_same cpu m.st) ∙ go) calls more safe.next
         not_yet more (Some came) amid told = told
 
@@ -267,8 +267,8 @@ module _ (R : List ℕ) (rom : ℕ → ℕ) (start : ℕ) (notes : Notes) (ways 
       came : returning.Came rom start (returning.ret game d there since flags) (suc since) (word_at d.st.mem (d.st.pc + 1)) d.st.blank d.st
       came = returning.came game d there since flags
 
-      back : Returned R rom start notes ways drafts accepted brought d.st (step came.choice d.st)
-      back = driver_back R rom start notes ways drafts accepted brought d.st d.run d.outside d.goes d.calls_it came.choice
+      back : Returned R rom start notes ways offers puts accepted brought d.st (step came.choice d.st)
+      back = driver_back R rom start notes ways offers puts accepted brought d.st d.run d.outside d.goes d.calls_it came.choice
 
       out : came.st.amid ≡ None
       out = ap (λ (s : State). s.amid) came.stepped ∙ back.amid ∙ d.outside

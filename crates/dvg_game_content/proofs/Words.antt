@@ -32,20 +32,24 @@ pub record Put (R : List ℕ) (a x : ℕ) : Type 0 where
   pub put : IsPut R op
   pub is_op : IsOp op
 
-shape_put : (R : List ℕ) (a x : ℕ) → a < 256 → calls_shape R a x ≡ true → Put R a x
-shape_put R a x small is =
-    let one = both_true (nat_le 0xC0 x && nat_lt x 0xD0) _ is in
-    let two = both_true (nat_le 0xC0 x) (nat_lt x 0xD0) one.0 in
-    let low = leb-true 0xC0 x two.0 in
-    let high = leb-true (suc x) 0xD0 two.1 in
+-- a call of a shape whose frame the check accepts
+pub shape_word : (R : List ℕ) (a x : ℕ) → a < 256 → 0xC0 ≤ x → x < 0xD0 → Accepts (calls_one (shape_of a x)) R → Put R a x
+shape_word R a x small low high accepted =
     let first : a ≡ (0xC000 + shape_of a x) % 256 = omega (arith, small, low, high) in
     let second : x ≡ (0xC000 + shape_of a x) / 256 = omega (arith, small, low, high) in
     record {
       op = CallRom (shape_of a x);
       word = λ j. first j ∷ second j ∷ [];
-      put = passes_accepts (calls_one (shape_of a x)) R one.1;
+      put = accepted;
       is_op = omega (arith, small, low, high);
     }
+
+shape_put : (R : List ℕ) (a x : ℕ) → a < 256 → calls_shape R a x ≡ true → Put R a x
+shape_put R a x small is =
+    let one = both_true (nat_le 0xC0 x && nat_lt x 0xD0) _ is in
+    let two = both_true (nat_le 0xC0 x) (nat_lt x 0xD0) one.0 in
+    shape_word R a x small (leb-true 0xC0 x two.0) (leb-true (suc x) 0xD0 two.1)
+    (passes_accepts (calls_one (shape_of a x)) R one.1)
 
 number_is : (sign n : ℕ) → sign < 2 → is_plain sign n ≡ true
     → (sign_bit (number sign n) ≡ sign) × (unsigned_abs (number sign n) ≡ n)
@@ -59,7 +63,7 @@ abbrev packed : (scale ys y z xs x : ℕ) → ℕ
 packed scale ys y z xs x =
     0xF000 + 2048 * ((scale - 2) % 2) + 1024 * ys + 256 * y + 16 * z + 8 * ((scale - 2) / 2) + 4 * xs + x
 
-short_put : (R : List ℕ) (a x : ℕ) → a < 256 → is_short a x ≡ true → Put R a x
+pub short_put : (R : List ℕ) (a x : ℕ) → a < 256 → is_short a x ≡ true → Put R a x
 short_put R a x small is =
     let one = both_true (nat_le 0xF0 x && nat_lt x 0x100) _ is in
     let two = both_true (nat_le 0xF0 x) (nat_lt x 0x100) one.0 in

@@ -129,23 +129,27 @@ for_each a x most p = false
 abbrev pub of_each : Fact → (ℕ → ℕ → Bool) → Bool
 of_each f p = for_each f.a f.x f.most p
 
--- what is brought to a routine of the driver
-abbrev pub brought_to : List ℕ → (rom : ℕ → ℕ) → (drafts : ℕ → List OpKind) → Fact → ℕ → Bool
-brought_to R rom drafts f to =
-    if nat_eq to dvg_offer then of_each f (λ a x. may_offer R rom drafts (a + 256 * x))
-    else if nat_eq to dvg_put then of_each f (may_put R) else not (nat_eq to dvg_pair)
+-- what is brought to a routine of the driver: a table at an address that passes a test, a word of two bytes that do
+abbrev pub brought_by : (offers : ℕ → Bool) (puts : ℕ → ℕ → Bool) → Fact → ℕ → Bool
+brought_by offers puts f to =
+    if nat_eq to dvg_offer then of_each f (λ a x. offers (a + 256 * x))
+    else if nat_eq to dvg_put then of_each f puts else not (nat_eq to dvg_pair)
 
 abbrev pub is_leap : Kind → Bool
 is_leap Jump = true
 is_leap Call = true
 is_leap kind = false
 
-abbrev pub brings_at : List ℕ → (rom : ℕ → ℕ) → Ways → (drafts : ℕ → List OpKind) → (at : ℕ) → Option Note → Bool
-brings_at R rom ways drafts at None = true
-brings_at R rom ways drafts at (Some note) = flows ways rom at (kind_of (rom at))
-    && (not (is_leap (kind_of (rom at))) || brought_to R rom drafts (fact ways rom far at) (word_at rom (at + 1)))
+abbrev pub brings_at : (offers : ℕ → Bool) (puts : ℕ → ℕ → Bool) (rom : ℕ → ℕ) → Ways → (at : ℕ) → Option Note → Bool
+brings_at offers puts rom ways at None = true
+brings_at offers puts rom ways at (Some note) = flows ways rom at (kind_of (rom at))
+    && (not (is_leap (kind_of (rom at))) || brought_by offers puts (fact ways rom far at) (word_at rom (at + 1)))
+
+-- all that a program offers and puts passes these tests, and it calls no dvg_pair
+abbrev pub brings_by : (offers : ℕ → Bool) (puts : ℕ → ℕ → Bool) (rom : ℕ → ℕ) → (start : ℕ) → Notes → Ways → Bool
+brings_by offers puts rom start notes ways = is_free ways start
+    && all_under places (λ i. brings_at offers puts rom ways (first + i) (noted notes (first + i)))
 
 -- all that a program offers and puts is accepted, and it calls no dvg_pair: with the drafts of its tables
 abbrev pub brings : List ℕ → (rom : ℕ → ℕ) → (start : ℕ) → Notes → Ways → (drafts : ℕ → List OpKind) → Bool
-brings R rom start notes ways drafts = is_free ways start
-    && all_under places (λ i. brings_at R rom ways drafts (first + i) (noted notes (first + i)))
+brings R rom start notes ways drafts = brings_by (may_offer R rom drafts) (may_put R) rom start notes ways

@@ -2,7 +2,7 @@
 //! function that does nothing.
 #![tactic(auto)]
 
-ghost use Rattle.dvg_game_content.specs.Law.{ContentByBytes, PassesAccepts};
+ghost use Rattle.dvg_game_content.specs.Law.{ContentByBytes, ContentByTests, PassesAccepts};
 
 /// A draft whose ways were gone to their ends has none of the check's faults.
 pub fn passes_accepts()
@@ -12,4 +12,9 @@ pub fn passes_accepts()
 /// What a game offers and puts is what `Content` says, where two tests of its bytes say so.
 pub fn content_by_bytes()
     ensures { ContentByBytes }
+{}
+
+/// So it is by any tests of what it offers and puts, whose yes means what `Content` asks.
+pub fn content_by_tests()
+    ensures { ContentByTests }
 {}

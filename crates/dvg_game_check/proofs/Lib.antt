@@ -1,0 +1,9 @@
+pub mod Loops
+pub mod Slots
+pub mod Tables
+pub mod Bytes
+pub mod Way
+pub mod Accepted
+pub mod Ors
+pub mod Knows
+pub mod Offers
