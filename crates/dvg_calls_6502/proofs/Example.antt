@@ -1,6 +1,6 @@
 -- A boot and an offer, over a memory of zeros with the code and a table.
-use Rattle.std.proofs.Common.{◌≡◌, ℕ, ◌+◌, ◌%◌, Bool, true, false, eqb-true, List, [], ◌∷◌}
-use Rattle.std.proofs.Common.{◌++◌, refl, sym, ap, ◌∙◌, arith, inl}
+use Rattle.std.proofs.Common.{◌≡◌, ℕ, ◌+◌, ◌%◌, Bool, true, false, eqb-true, List, [], ◌∷◌, ◌<◌}
+use Rattle.std.proofs.Common.{◌++◌, refl, sym, ap, ◌∙◌, arith, inl, suc}
 use Rattle.std.proofs.lemmas.List.Elements.{All-cons, All-nil}
 use Rattle.std.specs.Prelude.{◌||◌, ◌&&◌, nat_eq, not, if◌then◌else◌, slice_index, pos}
 use Rattle.dvg_code.specs.declared.instr.Instr.TheVariants.{Labs, Vctr}
@@ -18,6 +18,9 @@ use Rattle.dvg_calls_6502.specs.Tables.{HasTable, table_of}
 use Rattle.dvg_calls_6502.specs.Routines
 use Rattle.dvg_calls_6502.specs.Routines.{Enters}
 use Rattle.dvg_calls_6502.specs.Whole.{Done, SomeFrame}
+use Rattle.dvg_calls_6502.specs.Copy.{SomeCopies, CanCopy, Copy, is_source}
+use Rattle.dvg_calls_6502.specs.Board.{is_own, is_hardware}
+use Rattle.dvg_calls_6502.specs.Amid.{is_work}
 use Rattle.dvg_calls_6502.specs.Calls
 use Rattle.dvg_calls_6502.specs.Calls.{Call, IsSession, IsLifeOf}
 use Rattle.dvg_calls_6502.specs.Build.{IsPut, put_items}
@@ -342,6 +345,66 @@ some_frame = (
     alone = alone (guards is_kept_building 0xFF) 12 close_from;
     returns = refl;
   },
+  refl,
+)
+
+-- the same frame, copied
+abbrev copy_from : Cpu
+copy_from = record (entered 0x69C0 0x50 0xFF 0 labs_from.mem) { a = 2; y = 4 }
+
+abbrev close_copied : Cpu
+close_copied = entered 0x6A00 0 0xFF 0 (run 0xFF 49 copy_from).mem
+
+can_copy : CanCopy copy_from
+can_copy = record {
+  clear = refl;
+  byte = omega arith;
+  even = refl;
+  top = omega arith;
+  apart = apart;
+  device = device;
+}
+  where
+    apart : (k : ℕ) → k < 4 → (is_own (0x5002 + k) || is_work (0x5002 + k)) ≡ false
+    apart (suc (suc (suc (suc k)))) less = absurd (omega arith)
+    apart _ less = refl
+
+    device : (k : ℕ) → k < 4 → is_hardware (0x5002 + k) ≡ false
+    device (suc (suc (suc (suc k)))) less = absurd (omega arith)
+    device _ less = refl
+
+pub some_copies : SomeCopies
+some_copies = (
+  done 16 open_from,
+  done 12 close_copied,
+  (Copy, done 49 copy_from) ∷ [],
+  record { flipped = refl; place = (refl, refl, refl) },
+  record {
+    enters = enters_open;
+    untouched = λ b own. refl;
+    alone = alone (guards is_kept_building 0xFF) 16 open_from;
+    returns = refl;
+  },
+  (
+    record {
+      enters = record { entry = refl; log = refl; loaded = labs_loaded; a = omega arith; x = omega arith; s = omega arith };
+      can = can_copy;
+      untouched = λ b own. ap (λ (c : Cpu). c.mem b) (sym (still 0xFF 16 open_from));
+      alone = alone (guards (is_kept (is_source Copy copy_from)) 0xFF) 49 copy_from;
+      returns = refl;
+    },
+    tt,
+  ),
+  record {
+    enters = enters 0x6A00 0 0xFF 0 close_copied.mem (omega arith) (omega arith)
+        (loaded_after 0xFF 49 copy_from _ refl refl refl labs_loaded);
+    untouched = λ b own. ap (λ (c : Cpu). c.mem b) (sym (still 0xFF 49 copy_from));
+    alone = alone (guards is_kept_building 0xFF) 12 close_copied;
+    returns = refl;
+  },
+  refl,
+  done 49 copy_from,
+  refl,
   refl,
 )
 

@@ -29,7 +29,7 @@ use Rattle.dvg_calls_6502.proofs.VectorBuilds.{vector_takes, vector_refuses, own
 use Rattle.dvg_calls_6502.proofs.Pairing.{pair_takes, labs_takes}
 use Rattle.dvg_calls_6502.proofs.OpenAndClose.{open_is_taken, close_takes}
 
-written_append : (a : ℕ) (xs ys : List ℕ) → written a (xs ++ ys) ≡ written (a + length xs) ys ++ written a xs
+pub written_append : (a : ℕ) (xs ys : List ℕ) → written a (xs ++ ys) ≡ written (a + length xs) ys ++ written a xs
 written_append a [] ys = let e : a ≡ a + 0 = omega arith in
     ap (λ p. written p ys) e ∙ sym (append-nil (written (a + 0) ys))
 written_append a (x ∷ xs) ys = let e : suc a + length xs ≡ a + suc (length xs) = omega arith in
@@ -37,15 +37,15 @@ written_append a (x ∷ xs) ys = let e : suc a + length xs ≡ a + suc (length x
     ∙ ap (λ p. written p ys ++ written (suc a) xs) e)
     ∙ append_assoc (written (a + suc (length xs)) ys) (written (suc a) xs) (Writes a x ∷ [])
 
-own_kept : (b : ℕ) → is_own b ≡ true → is_kept_building b ≡ true
+pub own_kept : (b : ℕ) → is_own b ≡ true → is_kept_building b ≡ true
 own_kept b is = or_left (is_own b) _ is
 
 -- a call amid others that has returned, by the run without them
-record Same (call : Done) (end : Cpu) : Type 0 where
-  log : (end_of call).log ≡ end.log
-  own : (b : ℕ) → is_own b ≡ true → (end_of call).mem b ≡ end.mem b
+pub record Same (call : Done) (end : Cpu) : Type 0 where
+  pub log : (end_of call).log ≡ end.log
+  pub own : (b : ℕ) → is_own b ≡ true → (end_of call).mem b ≡ end.mem b
 
-same : (entry : ℕ) (before : ℕ → ℕ) (call : Done) (steps : ℕ) → IsDone entry before call
+pub same : (entry : ℕ) (before : ℕ → ℕ) (call : Done) (steps : ℕ) → IsDone entry before call
     → ComesOut (guards is_kept_building call.from.s) call.from
     → at_return call.from.s (run call.from.s steps call.from) ≡ true → Same call (run call.from.s steps call.from)
 same entry before call steps done out back =
@@ -60,13 +60,13 @@ same entry before call steps done out back =
     }
 
 -- what a part does, whether it puts something or is refused
-record Does (cpu : Cpu) (half : Half) (flipped : Bool) (now rest : List ℕ) : Type 0 where
-  steps : ℕ
-  returns : at_return cpu.s (run cpu.s steps cpu) ≡ true
-  shows : seen (run cpu.s steps cpu).log ≡ written (goal_in cpu.mem) now
-  goes_on : goal_in (run cpu.s steps cpu).mem ≡ goal_in cpu.mem + length now
-  building : IsBuilding (run cpu.s steps cpu).mem half flipped rest
-  alike : ComesOut (guards is_kept_building cpu.s) cpu
+pub record Does (cpu : Cpu) (half : Half) (flipped : Bool) (now rest : List ℕ) : Type 0 where
+  pub steps : ℕ
+  pub returns : at_return cpu.s (run cpu.s steps cpu) ≡ true
+  pub shows : seen (run cpu.s steps cpu).log ≡ written (goal_in cpu.mem) now
+  pub goes_on : goal_in (run cpu.s steps cpu).mem ≡ goal_in cpu.mem + length now
+  pub building : IsBuilding (run cpu.s steps cpu).mem half flipped rest
+  pub alike : ComesOut (guards is_kept_building cpu.s) cpu
 
 of_builds : (cpu : Cpu) (half : Half) (flipped : Bool) (now rest : List ℕ) → Builds cpu half flipped now rest
     → Does cpu half flipped now rest
@@ -93,7 +93,7 @@ of_refusal cpu half flipped rest entry did building = record {
     own : (b : ℕ) → is_own b ≡ true → (run cpu.s did.steps cpu).mem b ≡ cpu.mem b
     own b is = did.kept b (subst (λ entry. is_changed entry b ≡ false) (sym entry) (own_not_work b is))
 
-part_does : (part : Part) (cpu : Cpu) (half : Half) (flipped : Bool) (rest : List ℕ) → Enters cpu (begins part)
+pub part_does : (part : Part) (cpu : Cpu) (half : Half) (flipped : Bool) (rest : List ℕ) → Enters cpu (begins part)
     → IsBuilding cpu.mem half flipped (put_by part cpu ++ rest) → 2 ≤ length rest
     → Does cpu half flipped (put_by part cpu) rest
 part_does Put cpu half flipped rest enters building more =
@@ -148,6 +148,24 @@ parts_do mem (call ∷ calls) half flipped rest done building more =
     sum : (a b c : ℕ) → a + b + c ≡ a + (b + c)
     sum a b c = omega arith
 
+-- a frame is closed
+pub closes_on : (half : Half) (flipped : Bool) (closing : Done) (ends : Closes closing.from half flipped) → Same closing (run closing.from.s ends.steps closing.from)
+    → (from to : ℕ) → Holds (end_of closing).mem from to
+    (record { place = Writing (word_zero (other half) (not flipped)); half = half; flipped = flipped })
+closes_on half flipped closing ends shut from to = holds_on (run closing.from.s ends.steps closing.from).mem (end_of closing).mem from to
+    shut.own (λ feeding. absurd (not_feeding (ends.holds 0 0).place.1 feeding))
+    (record { place = Writing (word_zero (other half) (not flipped)); half = half; flipped = flipped }) (ends.holds from to)
+  where
+    m : ℕ → ℕ
+    m = (run closing.from.s ends.steps closing.from).mem
+
+    not_feeding : IsFeeding m 0 0 half flipped (word_zero (other half) (not flipped))
+        ⊎ ((m 0x10 ≡ 3) × (word_zero (other half) (not flipped) ≡ word_zero (other half) true))
+        ⊎ ((m 0x10 ≡ 4) × (word_zero (other half) (not flipped) ≡ word_zero (other half) false)) → m 0x10 ≡ 0x80 → ⊥
+    not_feeding (inl feeds) phase = let some = feeds.some in let ends = feeds.ends in absurd (omega (arith, some, ends))
+    not_feeding (inr (inl is)) phase = let e = is.0 in absurd (omega (arith, e, phase))
+    not_feeding (inr (inr is)) phase = let e = is.0 in absurd (omega (arith, e, phase))
+
 pub builds_frame : BuildsFrame
 builds_frame begin stop half flipped first opening closing calls holds opened done closed fits =
     let halt : List ℕ = 0 ∷ 0xB0 ∷ [] in
@@ -174,25 +192,8 @@ builds_frame begin stop half flipped first opening closing calls holds opened do
           ∙ ap (λ l. written (goal_in (end_of opening).mem + length (bytes_put calls)) halt ++ l) (append-nil (seen_of calls) ∙ did.shows)
           ∙ sym (written_append (goal_in (end_of opening).mem) (bytes_put calls) halt)
           ∙ ap (λ p. written p (bytes_put calls ++ halt)) goal,
-      λ from to. closes_on closing ends shut from to,
+      λ from to. closes_on half flipped closing ends shut from to,
     )
-  where
-    closes_on : (closing : Done) (ends : Closes closing.from half flipped) → Same closing (run closing.from.s ends.steps closing.from)
-        → (from to : ℕ) → Holds (end_of closing).mem from to
-        (record { place = Writing (word_zero (other half) (not flipped)); half = half; flipped = flipped })
-    closes_on closing ends shut from to = holds_on (run closing.from.s ends.steps closing.from).mem (end_of closing).mem from to
-        shut.own (λ feeding. absurd (not_feeding (ends.holds 0 0).place.1 feeding))
-        (record { place = Writing (word_zero (other half) (not flipped)); half = half; flipped = flipped }) (ends.holds from to)
-      where
-        m : ℕ → ℕ
-        m = (run closing.from.s ends.steps closing.from).mem
-
-        not_feeding : IsFeeding m 0 0 half flipped (word_zero (other half) (not flipped))
-            ⊎ ((m 0x10 ≡ 3) × (word_zero (other half) (not flipped) ≡ word_zero (other half) true))
-            ⊎ ((m 0x10 ≡ 4) × (word_zero (other half) (not flipped) ≡ word_zero (other half) false)) → m 0x10 ≡ 0x80 → ⊥
-        not_feeding (inl feeds) phase = let some = feeds.some in let ends = feeds.ends in absurd (omega (arith, some, ends))
-        not_feeding (inr (inl is)) phase = let e = is.0 in absurd (omega (arith, e, phase))
-        not_feeding (inr (inr is)) phase = let e = is.0 in absurd (omega (arith, e, phase))
 
 pub builds_life : BuildsLife
 builds_life half first F life place =

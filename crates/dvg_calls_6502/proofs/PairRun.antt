@@ -1,13 +1,16 @@
 -- dvg_pair, dvg_labs, dvg_open and dvg_close, as the code does them.
 use Rattle.std.proofs.Common.{◌≡◌, ℕ, ◌+◌, ◌-◌, ◌*◌, ◌%◌, ◌<◌, Bool, true, false, List, [], ◌∷◌, refl, ap, ◌∙◌, subst}
-use Rattle.std.proofs.Common.{arith}
-use Rattle.std.specs.Prelude.{nat_eq, nat_le, bit_and, bit_or, bit_xor, if◌then◌else◌}
+use Rattle.std.proofs.Common.{arith, sym, zero, suc, not, leb-true, le-leb}
+use Rattle.std.specs.Prelude.{nat_eq, nat_le, bit_and, bit_or, bit_xor, if◌then◌else◌, slice_index, nat_lt, ◌&&◌}
 use Rattle.dvg_calls_6502.specs.Processor.{Cpu, Access, Reads, Writes, put, run}
 use Rattle.dvg_calls_6502.specs.Board.{seen}
 use Rattle.dvg_calls_6502.proofs.ProcessorRuns.{Comes, by, at, comes}
-use Rattle.dvg_calls_6502.proofs.Memory.{laid, page_of, put_page, put_out, in_page, in_code}
+use Rattle.dvg_calls_6502.proofs.Memory.{laid, page_of, put_page, put_out, in_page, in_code, le_not}
 use Rattle.dvg_calls_6502.proofs.StoredByte.{carried}
 use Rattle.dvg_calls_6502.proofs.BuildRun.{is_full}
+use Rattle.dvg_calls_6502.proofs.Follow.{Sym, Way, Goes, Puts, IsFar, full, over as over', in_part, follow}
+use Rattle.dvg_calls_6502.proofs.Arrive.{arrives}
+use Rattle.dvg_calls_6502.proofs.Parts.{parts, work_is, comes_apart}
 use Rattle.dvg_calls_6502.proofs.OfferRun.{free_of, high_of}
 
 -- where a byte is stored
@@ -17,84 +20,14 @@ pub record Place (to : ℕ) : Type 0 where
   pub high : nat_le 0x200 to ≡ true
   pub near : (b : ℕ) → b < 0x100 → nat_eq b to ≡ false
 
--- the second word, from 69A5 on; old is the place in memory, and y the one in the register
-module _ (q x s : ℕ) (v d i : Bool) (free publish old next t0 t1 pages end second f0 f1 : ℕ) (mem flags : ℕ → ℕ) where
-  abbrev odd : ℕ
-  odd = (next + 1) % 256
+far : {to : ℕ} → Place to → IsFar to
+far {to = to} place = (off, place.code, place.high)
+  where
+    off : in_part to ≡ false
+    off = let low = leb-true 0x200 to place.high in
+        let a : nat_le 0x10 to ≡ true = le-leb 0x10 to (omega (arith, low)) in
+        let b : nat_lt to 0x21 ≡ false = le_not (suc to) 0x21 (omega (arith, low)) in rw (a, b) refl
 
-  abbrev up : ℕ
-  up = (odd + 1) % 256
-
-  abbrev to0 : ℕ
-  to0 = (t0 + 256 * t1 + next) % 65536
-
-  abbrev to1 : ℕ
-  to1 = (t0 + 256 * t1 + odd) % 65536
-
-  abbrev here : ℕ → List ℕ
-  here place = page_of 7 free publish place t0 t1 pages end second f0 f1
-
-  abbrev moved : Bool → List ℕ
-  moved wrap = page_of 7 free publish up t0 (carried wrap 1 t1) (carried wrap 1 pages) end second f0 f1
-
-  last_word : (a : ℕ) (n z : Bool) (log : List Access) (b0 b1 : ℕ) → mem 0x1D ≡ b0 → mem 0x1E ≡ b1
-      → Place to0 → Place to1 → (wrap : Bool) → nat_eq up 0 ≡ wrap
-      → Comes q (at 0x69AB a x next s n z false v d i (laid (here old) mem) flags log) s false
-      (laid (moved wrap) (put to1 b1 (put to0 b0 mem))) (Writes to1 b1 ∷ Writes to0 b0 ∷ seen log) []
-  last_word a n z log b0 b1 is0 is1 place0 place1 wrap wraps =
-      by q 1 _ (told0 b0) s false _ _ (ap told0 is0) (λ tables is. refl)
-      (by q 1 _ (at 0x69AF b0 x next s (nat_le 128 b0) (nat_eq b0 0) false v d i (laid (here old) (put to0 b0 mem)) flags log2)
-      s false _ _ (ap (λ m. at 0x69AF b0 x next s (nat_le 128 b0) (nat_eq b0 0) false v d i m flags log2)
-      (put_out to0 b0 (here old) mem place0.page place0.code)) (λ tables is. refl)
-      (by q 2 _ (told1 b1) s false _ _ (ap (λ (t : Bool). told1 (if t then b0 else mem 0x1E)) (place0.near 0x1E (omega arith))
-      ∙ ap told1 is1) (λ tables is. refl)
-      (by q 1 _ (at 0x69B4 b1 x odd s (nat_le 128 b1) (nat_eq b1 0) false v d i (laid (here old) new) flags log4)
-      s false _ _ (ap (λ m. at 0x69B4 b1 x odd s (nat_le 128 b1) (nat_eq b1 0) false v d i m flags log4)
-      (put_out to1 b1 (here old) (put to0 b0 mem) place1.page place1.code)) (λ tables is. refl)
-      (by q 2 _ (told2 wrap) s false _ _ (ap (λ m. at 0x69B7 b1 x up s (nat_le 128 up) (nat_eq up 0) false v d i m flags log5)
-      (put_page 3 up (here old) new (omega arith) refl) ∙ ap told2 wraps) (λ tables is. refl)
-      (subst (λ es. Comes q (told2 wrap) s false (laid (moved wrap) new) es []) shown (rest wrap))))))
-    where
-      new : ℕ → ℕ
-      new = put to1 b1 (put to0 b0 mem)
-
-      log1 : List Access
-      log1 = Reads 0x1D b0 ∷ log
-
-      log2 : List Access
-      log2 = Writes to0 b0 ∷ log1
-
-      log3 : List Access
-      log3 = Reads 0x1E b1 ∷ log2
-
-      log4 : List Access
-      log4 = Writes to1 b1 ∷ log3
-
-      log5 : List Access
-      log5 = Writes 0x13 up ∷ log4
-
-      told0 : ℕ → Cpu
-      told0 b = at 0x69AD b x next s (nat_le 128 b) (nat_eq b 0) false v d i (laid (here old) mem) flags (Reads 0x1D b ∷ log)
-
-      told1 : ℕ → Cpu
-      told1 b = at 0x69B2 b x odd s (nat_le 128 b) (nat_eq b 0) false v d i (laid (here old) (put to0 b0 mem)) flags
-          (Reads 0x1E b ∷ log2)
-
-      told2 : Bool → Cpu
-      told2 wrap = at 0x69B7 b1 x up s (nat_le 128 up) wrap false v d i (laid (here up) new) flags log5
-
-      shown : seen log5 ≡ Writes to1 b1 ∷ Writes to0 b0 ∷ seen log
-      shown = ap (λ (t : Bool). if t then Writes to1 b1 ∷ seen log3 else seen log3) place1.high
-          ∙ ap (λ (t : Bool). Writes to1 b1 ∷ (if t then Writes to0 b0 ∷ seen log else seen log)) place0.high
-
-      rest : (wrap : Bool) → Comes q (told2 wrap) s false (laid (moved wrap) new) (seen log5) []
-      rest false = comes 1 refl refl refl refl refl (λ tables is. refl) refl
-      rest true = comes 3 refl refl refl refl refl (λ tables is. refl)
-          (ap (put 0x16 ((pages + 1) % 256)) (put_page 5 ((t1 + 1) % 256) (here up) new (omega arith) refl)
-          ∙ put_page 6 ((pages + 1) % 256) (page_of 7 free publish up t0 ((t1 + 1) % 256) pages end second f0 f1) new
-          (omega arith) refl)
-
--- the first word, from 6995 on
 module _ (q x s : ℕ) (v d i : Bool) (free publish next t0 t1 pages end second f0 f1 : ℕ) (mem flags : ℕ → ℕ) where
   abbrev odd' : ℕ
   odd' = (next + 1) % 256
@@ -138,106 +71,71 @@ module _ (q x s : ℕ) (v d i : Bool) (free publish next t0 t1 pages end second 
 
   module _ (b0 b1 b2 b3 : ℕ) (is0 : mem 0x1B ≡ b0) (is1 : mem 0x1C ≡ b1) (is2 : mem 0x1D ≡ b2) (is3 : mem 0x1E ≡ b3)
       (wrap over : Bool) (wraps : nat_eq mid 0 ≡ wrap) (overs : nat_eq done 0 ≡ over)
-      (place0 : Place at0) (place1 : Place at1) (place2 : Place (at2 wrap)) (place3 : Place (at3 wrap)) where
-    words : (a : ℕ) (n z : Bool) (log : List Access)
-        → Comes q (at 0x699B a x next s n z false v d i (laid page mem) flags log) s false
-        (laid (paired wrap over) (news wrap b0 b1 b2 b3)) (wrote4 wrap b0 b1 b2 b3 log) []
-    words a n z log =
-        by q 1 _ (told0 b0) s false _ _ (ap told0 is0) (λ tables is. refl)
-        (by q 1 _ (at 0x699F b0 x next s (nat_le 128 b0) (nat_eq b0 0) false v d i (laid page (put at0 b0 mem)) flags log2)
-        s false _ _ (ap (λ m. at 0x699F b0 x next s (nat_le 128 b0) (nat_eq b0 0) false v d i m flags log2)
-        (put_out at0 b0 page mem place0.page place0.code)) (λ tables is. refl)
-        (by q 2 _ (told1 b1) s false _ _ (ap (λ (t : Bool). told1 (if t then b0 else mem 0x1C)) (place0.near 0x1C (omega arith))
-        ∙ ap told1 is1) (λ tables is. refl)
-        (by q 1 _ (at 0x69A4 b1 x odd' s (nat_le 128 b1) (nat_eq b1 0) false v d i (laid page new) flags log4)
-        s false _ _ (ap (λ m. at 0x69A4 b1 x odd' s (nat_le 128 b1) (nat_eq b1 0) false v d i m flags log4)
-        (put_out at1 b1 page (put at0 b0 mem) place1.page place1.code)) (λ tables is. refl)
-        (by q 1 _ (told2 wrap) s false _ _ (ap told2 wraps) (λ tables is. refl)
-        (subst (λ es. Comes q (told2 wrap) s false (laid (paired wrap over) (news wrap b0 b1 b2 b3))
-        (Writes (at3 wrap) b3 ∷ Writes (at2 wrap) b2 ∷ es) []) shown (rest wrap place2 place3))))))
+      (place0 : Place at0) (place1 : Place at1) (place2 : Place (at2 wrap)) (place3 : Place (at3 wrap))
+      (a y : ℕ) (n z c : Bool) (log : List Access) where
+    abbrev work : List ℕ
+    work = b0 ∷ b1 ∷ b2 ∷ b3 ∷ mem 0x1F ∷ mem 0x20 ∷ []
+
+    abbrev it : Sym
+    it = record { cpu = at 0x6989 a x y s n z c v d i mem flags log; page = parts page work; events = seen log }
+
+    -- each way through the code
+    path : (last late wrap over : Bool) → nat_le 3 pages ≡ last → nat_le 0xFC next ≡ late → is_full last late ≡ false
+        → nat_eq mid 0 ≡ wrap → nat_eq done 0 ≡ over → Place (at2 wrap) → Place (at3 wrap)
+        → Comes q (full it) s false (over' (parts (paired wrap over) work) (news wrap b0 b1 b2 b3)) (wrote4 wrap b0 b1 b2 b3 log) []
+    path true true wrap over is also room wraps overs place2 place3 = absurd (cc)
+    path true false true true is also room wraps overs place2 place3 = arrives q 28 (Goes false ∷ Goes false ∷ Goes false ∷ Puts at0 ∷ Puts at1 ∷ Goes false ∷ Puts (at2 true) ∷ Puts (at3 true) ∷ Goes false ∷ []) it
+        (refl, (ap not is, (also, ((refl, far place0), ((refl, far place1), (ap not wraps, ((refl, far place2), ((refl, far place3), (ap not overs, tt))))))))) refl refl refl (λ tables held. refl)
+    path true false true false is also room wraps overs place2 place3 = arrives q 26 (Goes false ∷ Goes false ∷ Goes false ∷ Puts at0 ∷ Puts at1 ∷ Goes false ∷ Puts (at2 true) ∷ Puts (at3 true) ∷ Goes true ∷ []) it
+        (refl, (ap not is, (also, ((refl, far place0), ((refl, far place1), (ap not wraps, ((refl, far place2), ((refl, far place3), (ap not overs, tt))))))))) refl refl refl (λ tables held. refl)
+    path true false false true is also room wraps overs place2 place3 = arrives q 26 (Goes false ∷ Goes false ∷ Goes false ∷ Puts at0 ∷ Puts at1 ∷ Goes true ∷ Puts (at2 false) ∷ Puts (at3 false) ∷ Goes false ∷ []) it
+        (refl, (ap not is, (also, ((refl, far place0), ((refl, far place1), (ap not wraps, ((refl, far place2), ((refl, far place3), (ap not overs, tt))))))))) refl refl refl (λ tables held. refl)
+    path true false false false is also room wraps overs place2 place3 = arrives q 24 (Goes false ∷ Goes false ∷ Goes false ∷ Puts at0 ∷ Puts at1 ∷ Goes true ∷ Puts (at2 false) ∷ Puts (at3 false) ∷ Goes true ∷ []) it
+        (refl, (ap not is, (also, ((refl, far place0), ((refl, far place1), (ap not wraps, ((refl, far place2), ((refl, far place3), (ap not overs, tt))))))))) refl refl refl (λ tables held. refl)
+    path false late true true is also room wraps overs place2 place3 = arrives q 26 (Goes false ∷ Goes true ∷ Puts at0 ∷ Puts at1 ∷ Goes false ∷ Puts (at2 true) ∷ Puts (at3 true) ∷ Goes false ∷ []) it
+        (refl, (ap not is, ((refl, far place0), ((refl, far place1), (ap not wraps, ((refl, far place2), ((refl, far place3), (ap not overs, tt)))))))) refl refl refl (λ tables held. refl)
+    path false late true false is also room wraps overs place2 place3 = arrives q 24 (Goes false ∷ Goes true ∷ Puts at0 ∷ Puts at1 ∷ Goes false ∷ Puts (at2 true) ∷ Puts (at3 true) ∷ Goes true ∷ []) it
+        (refl, (ap not is, ((refl, far place0), ((refl, far place1), (ap not wraps, ((refl, far place2), ((refl, far place3), (ap not overs, tt)))))))) refl refl refl (λ tables held. refl)
+    path false late false true is also room wraps overs place2 place3 = arrives q 24 (Goes false ∷ Goes true ∷ Puts at0 ∷ Puts at1 ∷ Goes true ∷ Puts (at2 false) ∷ Puts (at3 false) ∷ Goes false ∷ []) it
+        (refl, (ap not is, ((refl, far place0), ((refl, far place1), (ap not wraps, ((refl, far place2), ((refl, far place3), (ap not overs, tt)))))))) refl refl refl (λ tables held. refl)
+    path false late false false is also room wraps overs place2 place3 = arrives q 22 (Goes false ∷ Goes true ∷ Puts at0 ∷ Puts at1 ∷ Goes true ∷ Puts (at2 false) ∷ Puts (at3 false) ∷ Goes true ∷ []) it
+        (refl, (ap not is, ((refl, far place0), ((refl, far place1), (ap not wraps, ((refl, far place2), ((refl, far place3), (ap not overs, tt)))))))) refl refl refl (λ tables held. refl)
+
+    there : (k : ℕ) → k < 6 → slice_index work k ≡ mem (0x1B + k)
+    there zero less = sym is0
+    there (suc zero) less = sym is1
+    there (suc (suc zero)) less = sym is2
+    there (suc (suc (suc zero))) less = sym is3
+    there (suc (suc (suc (suc zero)))) less = refl
+    there (suc (suc (suc (suc (suc zero))))) less = refl
+    there (suc (suc (suc (suc (suc (suc k)))))) less = absurd (omega arith)
+
+    later : (k : ℕ) → k < 6 → slice_index work k ≡ news wrap b0 b1 b2 b3 (0x1B + k)
+    later k less = there k less
+        ∙ sym (near (at3 wrap) b3 place3 (put (at2 wrap) b2 (put at1 b1 (put at0 b0 mem)))
+        ∙ near (at2 wrap) b2 place2 (put at1 b1 (put at0 b0 mem)) ∙ near at1 b1 place1 (put at0 b0 mem) ∙ near at0 b0 place0 mem)
       where
-        new : ℕ → ℕ
-        new = put at1 b1 (put at0 b0 mem)
+        near : (p b : ℕ) → Place p → (m : ℕ → ℕ) → put p b m (0x1B + k) ≡ m (0x1B + k)
+        near p b place m = ap (λ (t : Bool). if t then b else m (0x1B + k)) (place.near (0x1B + k) (omega (arith, less)))
 
-        log1 : List Access
-        log1 = Reads 0x1B b0 ∷ log
-
-        log2 : List Access
-        log2 = Writes at0 b0 ∷ log1
-
-        log3 : List Access
-        log3 = Reads 0x1C b1 ∷ log2
-
-        log4 : List Access
-        log4 = Writes at1 b1 ∷ log3
-
-        told0 : ℕ → Cpu
-        told0 b = at 0x699D b x next s (nat_le 128 b) (nat_eq b 0) false v d i (laid page mem) flags (Reads 0x1B b ∷ log)
-
-        told1 : ℕ → Cpu
-        told1 b = at 0x69A2 b x odd' s (nat_le 128 b) (nat_eq b 0) false v d i (laid page (put at0 b0 mem)) flags
-            (Reads 0x1C b ∷ log2)
-
-        told2 : Bool → Cpu
-        told2 wrap = at 0x69A5 b1 x mid s (nat_le 128 mid) wrap false v d i (laid page new) flags log4
-
-        shown : seen log4 ≡ Writes at1 b1 ∷ Writes at0 b0 ∷ seen log
-        shown = ap (λ (t : Bool). if t then Writes at1 b1 ∷ seen log3 else seen log3) place1.high
-            ∙ ap (λ (t : Bool). Writes at1 b1 ∷ (if t then Writes at0 b0 ∷ seen log else seen log)) place0.high
-
-        later : (b k : ℕ) → b < 0x100 → mem b ≡ k → new b ≡ k
-        later b k small is = ap (λ (t : Bool). if t then b1 else put at0 b0 mem b) (place1.near b small)
-            ∙ ap (λ (t : Bool). if t then b0 else mem b) (place0.near b small) ∙ is
-
-        rest : (w : Bool) → Place (at2 w) → Place (at3 w)
-            → Comes q (told2 w) s false (laid (paired w over) (news w b0 b1 b2 b3))
-            (Writes (at3 w) b3 ∷ Writes (at2 w) b2 ∷ seen log4) []
-        rest false p2 p3 = by q 1 _ (at 0x69AB b1 x mid s (nat_le 128 mid) false false v d i (laid page new) flags log4)
-            s false _ _ refl (λ tables is. refl)
-            (last_word q x s v d i free publish next mid t0 t1 pages end second f0 f1 new flags b1 (nat_le 128 mid) false log4
-            b2 b3 (later 0x1D b2 (omega arith) is2) (later 0x1E b3 (omega arith) is3) p2 p3 over overs)
-        rest true p2 p3 =
-            let t = (t1 + 1) % 256 in
-            let p = (pages + 1) % 256 in
-            let log' : List Access = Writes 0x16 p ∷ Reads 0x16 pages ∷ Writes 0x15 t ∷ Reads 0x15 t1 ∷ log4 in
-            by q 3 _ (at 0x69AB b1 x mid s (nat_le 128 p) (nat_eq p 0) false v d i
-            (laid (page_of 7 free publish next t0 t p end second f0 f1) new) flags log') s false _ _
-            (ap (λ m. at 0x69AB b1 x mid s (nat_le 128 p) (nat_eq p 0) false v d i m flags log')
-            (ap (put 0x16 p) (put_page 5 t page new (omega arith) refl)
-            ∙ put_page 6 p (page_of 7 free publish next t0 t pages end second f0 f1) new (omega arith) refl))
-            (λ tables is. refl)
-            (last_word q x s v d i free publish next mid t0 t p end second f0 f1 new flags b1 (nat_le 128 p) (nat_eq p 0) log'
-            b2 b3 (later 0x1D b2 (omega arith) is2) (later 0x1E b3 (omega arith) is3) p2 p3 over overs)
-
-    abbrev log3' : List Access → List Access
-    log3' log = Reads 0x13 next ∷ Reads 0x16 pages ∷ Reads 0x10 7 ∷ log
-
-    pub pair_room : (a y : ℕ) (n z c : Bool) (log : List Access) (last late : Bool) → nat_le 3 pages ≡ last
-        → nat_le 0xFC next ≡ late → is_full last late ≡ false
-        → Comes q (at 0x6989 a x y s n z c v d i (laid page mem) flags log) s false
-        (laid (paired wrap over) (news wrap b0 b1 b2 b3)) (wrote4 wrap b0 b1 b2 b3 log) []
-    pair_room a y n z c log last late is also room =
-        by q 6 _ (told_page last) s false _ _ (ap told_page is) (λ tables is. refl) (rest last late also room)
-      where
-        told_page : Bool → Cpu
-        told_page last = at 0x6995 a x next s (nat_le 128 next) (nat_eq next 0) last v d i (laid page mem) flags (log3' log)
-
-        told_place : Bool → Cpu
-        told_place late = at 0x6999 a x next s (nat_le 128 ((next + 256 - 0xFC) % 256))
-            (nat_eq ((next + 256 - 0xFC) % 256) 0) late v d i (laid page mem) flags (log3' log)
-
-        rest : (last late : Bool) → nat_le 0xFC next ≡ late → is_full last late ≡ false
-            → Comes q (told_page last) s false (laid (paired wrap over) (news wrap b0 b1 b2 b3))
-            (wrote4 wrap b0 b1 b2 b3 log) []
-        rest false late also room = by q 1 _ (at 0x699B a x next s (nat_le 128 next) (nat_eq next 0) false v d i
-            (laid page mem) flags (log3' log)) s false _ _ refl (λ tables is. refl)
-            (words a (nat_le 128 next) (nat_eq next 0) (log3' log))
-        rest true false also room = by q 2 _ (told_place false) s false _ _ (ap told_place also) (λ tables is. refl)
-            (by q 1 _ (at 0x699B a x next s (nat_le 128 ((next + 256 - 0xFC) % 256))
-            (nat_eq ((next + 256 - 0xFC) % 256) 0) false v d i (laid page mem) flags (log3' log)) s false _ _ refl
-            (λ tables is. refl)
-            (words a (nat_le 128 ((next + 256 - 0xFC) % 256)) (nat_eq ((next + 256 - 0xFC) % 256) 0) (log3' log)))
-        rest true true also room = absurd (cc)
+  pub pair_room : (b0 b1 b2 b3 : ℕ) (is0 : mem 0x1B ≡ b0) (is1 : mem 0x1C ≡ b1) (is2 : mem 0x1D ≡ b2) (is3 : mem 0x1E ≡ b3)
+      (wrap over : Bool) (wraps : nat_eq mid 0 ≡ wrap) (overs : nat_eq done 0 ≡ over)
+      (place0 : Place at0) (place1 : Place at1) (place2 : Place (at2 wrap)) (place3 : Place (at3 wrap))
+      (a y : ℕ) (n z c : Bool) (log : List Access) (last late : Bool) → nat_le 3 pages ≡ last
+      → nat_le 0xFC next ≡ late → is_full last late ≡ false
+      → Comes q (at 0x6989 a x y s n z c v d i (laid page mem) flags log) s false
+      (laid (paired wrap over) (news wrap b0 b1 b2 b3)) (wrote4 wrap b0 b1 b2 b3 log) []
+  pair_room b0 b1 b2 b3 is0 is1 is2 is3 wrap over wraps overs place0 place1 place2 place3 a y n z c log last late is also room =
+      comes_apart q s false (it b0 b1 b2 b3 is0 is1 is2 is3 wrap over wraps overs place0 place1 place2 place3 a y n z c log) _ page
+      (paired wrap over) (work b0 b1 b2 b3 is0 is1 is2 is3 wrap over wraps overs place0 place1 place2 place3 a y n z c log)
+      (news wrap b0 b1 b2 b3) _
+      (ap (λ (m : ℕ → ℕ). at 0x6989 a x y s n z c v d i (laid page m) flags log)
+      (work_is (b0 ∷ b1 ∷ b2 ∷ b3 ∷ mem 0x1F ∷ mem 0x20 ∷ []) mem
+      (there b0 b1 b2 b3 is0 is1 is2 is3 wrap over wraps overs place0 place1 place2 place3 a y n z c log))) refl
+      (work_is (b0 ∷ b1 ∷ b2 ∷ b3 ∷ mem 0x1F ∷ mem 0x20 ∷ []) (news wrap b0 b1 b2 b3)
+      (later b0 b1 b2 b3 is0 is1 is2 is3 wrap over wraps overs place0 place1 place2 place3 a y n z c log))
+      (path b0 b1 b2 b3 is0 is1 is2 is3 wrap over wraps overs place0 place1 place2 place3 a y n z c log
+      last late wrap over is also room wraps overs place2 place3)
 
 -- dvg_labs: the two words in place, and then dvg_pair
 pub labs_run : (q a x y s : ℕ) (n z c v d i : Bool) (page : List ℕ) (mem flags : ℕ → ℕ) (log : List Access)

@@ -1,9 +1,10 @@
 -- Calls that are refused: they return with C set, and leave the driver as it is.
-use Rattle.std.proofs.Common.{◌≡◌, ◌≢◌, ℕ, suc, ◌+◌, ◌-◌, ◌%◌, ◌<◌, ◌≤◌, Bool, true, false, List, [], ◌∷◌, refl, sym, ap, ◌∙◌}
-use Rattle.std.proofs.Common.{subst, arith, leb-true}
+use Rattle.std.proofs.Common.{◌≡◌, ◌≢◌, ℕ, suc, ◌+◌, ◌-◌, ◌*◌, ◌/◌, ◌%◌, ◌<◌, ◌≤◌, Bool, true, false, not, List, [], ◌∷◌, refl, sym, ap, ◌∙◌}
+use Rattle.std.proofs.Common.{subst, arith, leb-true, set}
 use Rattle.std.specs.Prelude.{nat_eq, nat_le, nat_lt, ◌||◌, bit_and, bit_or, bit_xor}
 use Rattle.std.proofs.lemmas.Bool.{eqb-false, or_parts as neither}
 use Rattle.dvg_calls_6502.specs.Processor.{Cpu, Access, Reads, Writes, put, run}
+use Rattle.dvg_calls_6502.specs.Code.{dvg_offer, dvg_redraw, dvg_open, dvg_put, dvg_labs, dvg_pair, dvg_close}
 use Rattle.dvg_calls_6502.specs.Board.{IsLoaded, seen, is_own}
 use Rattle.dvg_calls_6502.specs.Amid.{is_kept, are_steady}
 use Rattle.dvg_calls_6502.specs.Routines.{Enters, Pair, Labs, put_by}
@@ -12,16 +13,13 @@ use Rattle.dvg_calls_6502.specs.Decided.{is_labs, LabsIsPair}
 use Rattle.dvg_calls_6502.proofs.AmidOthers.{alike_if}
 use Rattle.dvg_calls_6502.proofs.AmidRun.{came_out}
 use Rattle.dvg_calls_6502.proofs.ProcessorRuns.{Comes, by, at, returned, comes}
-use Rattle.dvg_calls_6502.proofs.Memory.{laid, page_of, page_in, known, loaded, put_small, both_true}
+use Rattle.dvg_calls_6502.proofs.Memory.{laid, page_of, both_true}
 use Rattle.dvg_calls_6502.proofs.FedByte.{compared}
 use Rattle.dvg_calls_6502.proofs.Masks.{opened, mixed}
 use Rattle.dvg_calls_6502.proofs.Steady.{steady_all, code_kept}
-use Rattle.dvg_calls_6502.proofs.TickCall.{past_low}
-use Rattle.dvg_calls_6502.proofs.TicksRun.{page_small}
-use Rattle.dvg_calls_6502.proofs.OfferRun.{offer_refuses, redraw_refuses}
-use Rattle.dvg_calls_6502.proofs.Offering.{here, here_is}
-use Rattle.dvg_calls_6502.proofs.BuildRun.{put_refuses, put_full}
-use Rattle.dvg_calls_6502.proofs.PairRun.{labs_run}
+use Rattle.dvg_calls_6502.proofs.Follow.{Sym, Way, Goes, Owes, full, over, follow}
+use Rattle.dvg_calls_6502.proofs.Sound.{runs, is_steadily}
+use Rattle.dvg_calls_6502.proofs.Arrive.{arrives, start, start_is, page_from, over_is, kept_set, loaded_over}
 
 -- the call is refused
 pub record Refuses (cpu : Cpu) : Type 0 where
@@ -60,24 +58,10 @@ module _ (q a x y s : ℕ) (n z c v d i : Bool) (phase free publish next t0 t1 p
   told pc wanted t = at pc a x phase s (nat_le 128 ((phase + 256 - wanted) % 256)) t (nat_le wanted phase) v d i
       (laid page mem) flags (Reads 0x10 phase ∷ log)
 
-  open_refuses : nat_eq phase 2 ≡ false
-      → Comes q (at 0x6924 a x y s n z c v d i (laid page mem) flags log) s true (laid page mem) (seen log) []
-  open_refuses other =
-      by q 2 _ (told 0x6928 2 false) s true _ _ (ap (told 0x6928 2) (compared phase 2 small (omega arith) ∙ other))
-      (λ tables is. refl)
-      (comes 2 refl refl refl refl refl (λ tables is. refl) refl)
-
   pub pair_refuses : nat_eq phase 7 ≡ false
-      → Comes q (at 0x6989 a x y s n z c v d i (laid page mem) flags log) s true (laid page mem) (seen log) []
+      → Comes q (at dvg_pair a x y s n z c v d i (laid page mem) flags log) s true (laid page mem) (seen log) []
   pair_refuses other =
       by q 2 _ (told 0x698D 7 false) s true _ _ (ap (told 0x698D 7) (compared phase 7 small (omega arith) ∙ other))
-      (λ tables is. refl)
-      (comes 2 refl refl refl refl refl (λ tables is. refl) refl)
-
-  close_refuses : nat_eq phase 7 ≡ false
-      → Comes q (at 0x6A00 a x y s n z c v d i (laid page mem) flags log) s true (laid page mem) (seen log) []
-  close_refuses other =
-      by q 2 _ (told 0x6A04 7 false) s true _ _ (ap (told 0x6A04 7) (compared phase 7 small (omega arith) ∙ other))
       (λ tables is. refl)
       (comes 2 refl refl refl refl refl (λ tables is. refl) refl)
 
@@ -85,7 +69,7 @@ module _ (q a x y s : ℕ) (n z c v d i : Bool) (phase free publish next t0 t1 p
 pub pair_full : (q a x y s : ℕ) (n z c v d i : Bool) (free publish next t0 t1 pages end second f0 f1 : ℕ) (mem flags : ℕ → ℕ)
     (log : List Access) → nat_le 3 pages ≡ true → nat_le 0xFC next ≡ true
     → let page = page_of 7 free publish next t0 t1 pages end second f0 f1 in
-    Comes q (at 0x6989 a x y s n z c v d i (laid page mem) flags log) s true (laid page mem) (seen log) []
+    Comes q (at dvg_pair a x y s n z c v d i (laid page mem) flags log) s true (laid page mem) (seen log) []
 pair_full q a x y s n z c v d i free publish next t0 t1 pages end second f0 f1 mem flags log last late =
     by q 6 _ (told_page true) s true _ _ (ap told_page last) (λ tables is. refl)
     (by q 2 _ (told_place true) s true _ _ (ap told_place late) (λ tables is. refl)
@@ -107,178 +91,167 @@ pair_full q a x y s n z c v d i free publish next t0 t1 pages end second f0 f1 m
 -- at a routine's entry
 module _ (cpu : Cpu) (entry : ℕ) (enters : Enters cpu entry) where
   -- a call that leaves all memory as it is
-  unchanged : Comes cpu.s (here cpu entry enters) cpu.s true (laid (page_in cpu.mem) cpu.mem) [] [] → Refuses cpu
+  unchanged : Comes cpu.s (full (start entry cpu)) cpu.s true (over (page_from cpu.mem) cpu.mem) [] [] → Refuses cpu
   unchanged comes = record {
     memory = cpu.mem;
-    comes = subst (λ (m : ℕ → ℕ). Comes cpu.s cpu cpu.s true m [] []) (sym (known cpu.mem enters.loaded))
-        (subst (λ (k : Cpu). Comes cpu.s k cpu.s true (laid (page_in cpu.mem) cpu.mem) [] []) (here_is cpu entry enters) comes);
+    comes = subst (λ (m : ℕ → ℕ). Comes cpu.s cpu cpu.s true m [] []) (over_is cpu.mem enters.loaded)
+        (subst (λ (k : Cpu). Comes cpu.s k cpu.s true (over (page_from cpu.mem) cpu.mem) [] [])
+        (start_is entry cpu enters.entry enters.log enters.loaded) comes);
     loaded = enters.loaded;
     own = λ b is. refl;
     far = λ b is. refl;
     kept = λ b is. refl;
   }
 
-pub offer_refused : (cpu : Cpu) → Enters cpu 0x68FE → nat_eq (cpu.mem 0x10) 2 ≡ false → Refuses cpu
-offer_refused cpu enters other = unchanged cpu 0x68FE enters
-    (offer_refuses cpu.s cpu.a cpu.x cpu.y cpu.s cpu.n cpu.z cpu.c cpu.v cpu.d cpu.i (cpu.mem 0x11) (cpu.mem 0x13) (cpu.mem 0x14)
-    (cpu.mem 0x15) (cpu.mem 0x16) (cpu.mem 0x17) (cpu.mem 0x18) (cpu.mem 0x19) (cpu.mem 0x1A) cpu.mem cpu.flags []
-    (cpu.mem 0x10) (cpu.mem 0x12) (enters.loaded.bytes 0x10) other)
+  -- what a look at the phase says
+  other : (wanted : ℕ) → wanted < 256 → nat_eq (cpu.mem 0x10) wanted ≡ false
+      → not (nat_eq ((cpu.mem 0x10 + 256 - wanted) % 256) 0) ≡ true
+  other wanted small is = ap not (compared (cpu.mem 0x10) wanted (enters.loaded.bytes 0x10) small ∙ is)
 
-pub redraw_refused : (cpu : Cpu) → Enters cpu 0x6943 → nat_eq (cpu.mem 0x10) 2 ≡ false → Refuses cpu
-redraw_refused cpu enters other = unchanged cpu 0x6943 enters
-    (redraw_refuses cpu.s cpu.a cpu.x cpu.y cpu.s cpu.n cpu.z cpu.c cpu.v cpu.d cpu.i (cpu.mem 0x11) (cpu.mem 0x13) (cpu.mem 0x14)
-    (cpu.mem 0x15) (cpu.mem 0x16) (cpu.mem 0x17) (cpu.mem 0x18) (cpu.mem 0x19) (cpu.mem 0x1A) cpu.mem cpu.flags []
-    (cpu.mem 0x10) (cpu.mem 0x12) (enters.loaded.bytes 0x10) other)
+  builds : cpu.mem 0x10 ≡ 7 → not (nat_eq ((cpu.mem 0x10 + 256 - 7) % 256) 0) ≡ false
+  builds is = ap (λ p. not (nat_eq ((p + 256 - 7) % 256) 0)) is
 
-pub open_refused : (cpu : Cpu) → Enters cpu 0x6924 → nat_eq (cpu.mem 0x10) 2 ≡ false → Refuses cpu
-open_refused cpu enters other = unchanged cpu 0x6924 enters
-    (open_refuses cpu.s cpu.a cpu.x cpu.y cpu.s cpu.n cpu.z cpu.c cpu.v cpu.d cpu.i (cpu.mem 0x10) (cpu.mem 0x11) (cpu.mem 0x12)
-    (cpu.mem 0x13) (cpu.mem 0x14) (cpu.mem 0x15) (cpu.mem 0x16) (cpu.mem 0x17) (cpu.mem 0x18) (cpu.mem 0x19) (cpu.mem 0x1A)
-    cpu.mem cpu.flags [] (enters.loaded.bytes 0x10) other)
+-- the look refuses
+pub offer_refused : (cpu : Cpu) → Enters cpu dvg_offer → nat_eq (cpu.mem 0x10) 2 ≡ false → Refuses cpu
+offer_refused cpu enters is = unchanged cpu dvg_offer enters (arrives cpu.s 4 (Goes true ∷ []) (start dvg_offer cpu)
+    (other cpu dvg_offer enters 2 (omega arith) is, tt) refl refl refl (λ tables also. refl))
 
-pub close_refused : (cpu : Cpu) → Enters cpu 0x6A00 → nat_eq (cpu.mem 0x10) 7 ≡ false → Refuses cpu
-close_refused cpu enters other = unchanged cpu 0x6A00 enters
-    (close_refuses cpu.s cpu.a cpu.x cpu.y cpu.s cpu.n cpu.z cpu.c cpu.v cpu.d cpu.i (cpu.mem 0x10) (cpu.mem 0x11) (cpu.mem 0x12)
-    (cpu.mem 0x13) (cpu.mem 0x14) (cpu.mem 0x15) (cpu.mem 0x16) (cpu.mem 0x17) (cpu.mem 0x18) (cpu.mem 0x19) (cpu.mem 0x1A)
-    cpu.mem cpu.flags [] (enters.loaded.bytes 0x10) other)
+pub redraw_refused : (cpu : Cpu) → Enters cpu dvg_redraw → nat_eq (cpu.mem 0x10) 2 ≡ false → Refuses cpu
+redraw_refused cpu enters is = unchanged cpu dvg_redraw enters (arrives cpu.s 4 (Goes true ∷ []) (start dvg_redraw cpu)
+    (other cpu dvg_redraw enters 2 (omega arith) is, tt) refl refl refl (λ tables also. refl))
+
+pub open_refused : (cpu : Cpu) → Enters cpu dvg_open → nat_eq (cpu.mem 0x10) 2 ≡ false → Refuses cpu
+open_refused cpu enters is = unchanged cpu dvg_open enters (arrives cpu.s 4 (Goes true ∷ []) (start dvg_open cpu)
+    (other cpu dvg_open enters 2 (omega arith) is, tt) refl refl refl (λ tables also. refl))
+
+pub close_refused : (cpu : Cpu) → Enters cpu dvg_close → nat_eq (cpu.mem 0x10) 7 ≡ false → Refuses cpu
+close_refused cpu enters is = unchanged cpu dvg_close enters (arrives cpu.s 4 (Goes true ∷ []) (start dvg_close cpu)
+    (other cpu dvg_close enters 7 (omega arith) is, tt) refl refl refl (λ tables also. refl))
+
+pub put_refused : (cpu : Cpu) → Enters cpu dvg_put → nat_eq (cpu.mem 0x10) 7 ≡ false → Refuses cpu
+put_refused cpu enters is = unchanged cpu dvg_put enters (arrives cpu.s 4 (Goes true ∷ []) (start dvg_put cpu)
+    (other cpu dvg_put enters 7 (omega arith) is, tt) refl refl refl (λ tables also. refl))
+
+pub pair_refused : (cpu : Cpu) → Enters cpu dvg_pair → nat_eq (cpu.mem 0x10) 7 ≡ false → Refuses cpu
+pair_refused cpu enters is = unchanged cpu dvg_pair enters (arrives cpu.s 4 (Goes true ∷ []) (start dvg_pair cpu)
+    (other cpu dvg_pair enters 7 (omega arith) is, tt) refl refl refl (λ tables also. refl))
+
+-- there is no room
+pub full_put : (cpu : Cpu) → Enters cpu dvg_put → cpu.mem 0x10 ≡ 7 → nat_le 3 (cpu.mem 0x16) ≡ true
+    → nat_le 0xFE (cpu.mem 0x13) ≡ true → Refuses cpu
+full_put cpu enters is last late = unchanged cpu dvg_put enters (arrives cpu.s 9 (Goes false ∷ Goes false ∷ Goes true ∷ [])
+    (start dvg_put cpu) (builds cpu dvg_put enters is, (ap not last, (late, tt))) refl refl refl (λ tables also. refl))
+
+pub full_pair : (cpu : Cpu) → Enters cpu dvg_pair → cpu.mem 0x10 ≡ 7 → nat_le 3 (cpu.mem 0x16) ≡ true
+    → nat_le 0xFC (cpu.mem 0x13) ≡ true → Refuses cpu
+full_pair cpu enters is last late = unchanged cpu dvg_pair enters (arrives cpu.s 9 (Goes false ∷ Goes false ∷ Goes true ∷ [])
+    (start dvg_pair cpu) (builds cpu dvg_pair enters is, (ap not last, (late, tt))) refl refl refl (λ tables also. refl))
 
 -- dvg_labs has made its two words by then
-module _ (cpu : Cpu) (enters : Enters cpu 0x6979) where
+module _ (cpu : Cpu) (enters : Enters cpu dvg_labs) where
+  abbrev from : Sym
+  from = start dvg_labs cpu
+
+  from_is : full from ≡ cpu
+  from_is = start_is dvg_labs cpu enters.entry enters.log enters.loaded
+
   abbrev h : ℕ
   h = bit_or (bit_and (cpu.mem 0x1C) 0x0F) 0xA0
 
   abbrev l : ℕ
   l = bit_xor (bit_and (bit_xor cpu.a (cpu.mem 0x1E)) 0xF0) (cpu.mem 0x1E)
 
-  abbrev set : ℕ → ℕ
-  set = put 0x1C h (put 0x1E l cpu.mem)
+  abbrev made : ℕ → ℕ
+  made = over (set (set (page_from cpu.mem) 14 l) 12 h) cpu.mem
 
-  abbrev log4 : List Access
-  log4 = Writes 0x1C h ∷ Reads 0x1C (cpu.mem 0x1C) ∷ Writes 0x1E l ∷ Reads 0x1E (cpu.mem 0x1E) ∷ Reads 0x1E (cpu.mem 0x1E) ∷ []
+  made_kept : (b : ℕ) → b ≢ 0x1C → b ≢ 0x1E → made b ≡ cpu.mem b
+  made_kept b not_y not_x = kept_set 12 h (set (page_from cpu.mem) 14 l) cpu.mem b not_y
+      ∙ kept_set 14 l (page_from cpu.mem) cpu.mem b not_x ∙ ap (λ (m : ℕ → ℕ). m b) (over_is cpu.mem enters.loaded)
 
-  abbrev start : Cpu
-  start = at 0x6979 cpu.a cpu.x cpu.y cpu.s cpu.n cpu.z cpu.c cpu.v cpu.d cpu.i (laid (page_in cpu.mem) cpu.mem) cpu.flags []
+  h_is : h ≡ 0xA0 + cpu.mem 0x1C % 16
+  h_is = opened (cpu.mem 0x1C) (enters.loaded.bytes 0x1C)
 
-  abbrev paired : Cpu
-  paired = at 0x6989 h cpu.x cpu.y cpu.s (nat_le 128 h) (nat_eq h 0) cpu.c cpu.v cpu.d cpu.i (laid (page_in cpu.mem) set) cpu.flags log4
+  l_is : l ≡ 16 * (cpu.a / 16) + cpu.mem 0x1E % 16
+  l_is = mixed cpu.a (cpu.mem 0x1E) enters.a (enters.loaded.bytes 0x1E)
 
-  labs_as_pair : Comes cpu.s paired cpu.s true (laid (page_in cpu.mem) set) [] [] → Refuses cpu
+  labs_as_pair : Comes cpu.s (full from) cpu.s true made [] [] → Refuses cpu
   labs_as_pair comes = record {
-    memory = laid (page_in cpu.mem) set;
-    comes = subst (λ (k : Cpu). Comes cpu.s k cpu.s true (laid (page_in cpu.mem) set) [] []) (here_is cpu 0x6979 enters)
-        (by cpu.s 8 start paired cpu.s true (laid (page_in cpu.mem) set) []
-        (labs_run cpu.s cpu.a cpu.x cpu.y cpu.s cpu.n cpu.z cpu.c cpu.v cpu.d cpu.i (page_in cpu.mem) cpu.mem cpu.flags [])
-        (λ tables is. refl) comes);
-    loaded = loaded (page_in cpu.mem) set (page_small cpu.mem enters.loaded)
-        (put_small 0x1C h (put 0x1E l cpu.mem)
-        (let e = opened (cpu.mem 0x1C) (enters.loaded.bytes 0x1C) in omega (arith, e))
-        (put_small 0x1E l cpu.mem
-        (let e = mixed cpu.a (cpu.mem 0x1E) enters.a (enters.loaded.bytes 0x1E) in let a = enters.a in omega (arith, e, a))
-        enters.loaded.bytes));
+    memory = made;
+    comes = subst (λ (k : Cpu). Comes cpu.s k cpu.s true made [] []) from_is comes;
+    loaded = let bytes = enters.loaded.bytes in loaded_over (set (set (page_from cpu.mem) 14 l) 12 h) cpu.mem (
+      bytes 0x10,
+      (
+        bytes 0x11,
+        (
+          bytes 0x12,
+          (
+            bytes 0x13,
+            (
+              bytes 0x14,
+              (
+                bytes 0x15,
+                (
+                  bytes 0x16,
+                  (
+                    bytes 0x17,
+                    (
+                      bytes 0x18,
+                      (
+                        bytes 0x19,
+                        (
+                          bytes 0x1A,
+                          (
+                            bytes 0x1B,
+                            (
+                              omega (arith, h_is),
+                              (
+                                bytes 0x1D,
+                                ((let a = enters.a in omega (arith, l_is, a)), (bytes 0x1F, (bytes 0x20, tt))),
+                              ),
+                            ),
+                          ),
+                        ),
+                      ),
+                    ),
+                  ),
+                ),
+              ),
+            ),
+          ),
+        ),
+      ),
+    ) bytes;
     own = λ b is. let high = leb-true (suc b) 0x1B (both_true (nat_le 0x10 b) (nat_lt b 0x1B) is).1 in
-        same b (λ e. absurd (omega arith)) (λ e. absurd (omega arith));
-    far = λ b is. same b (λ e. absurd (omega arith)) (λ e. absurd (omega arith));
+        made_kept b (λ e. absurd (omega arith)) (λ e. absurd (omega arith));
+    far = λ b is. made_kept b (λ e. absurd (omega arith)) (λ e. absurd (omega arith));
     kept = λ b is.
         let at_labs : ((nat_eq b 0x1C || nat_eq b 0x1E) || false) ≡ false =
         subst (λ entry. is_changed entry b ≡ false) enters.entry is in
         let high = neither (nat_eq b 0x1C) (nat_eq b 0x1E) (neither (nat_eq b 0x1C || nat_eq b 0x1E) false at_labs).0 in
-        same b (eqb-false b 0x1C high.0) (eqb-false b 0x1E high.1);
+        made_kept b (eqb-false b 0x1C high.0) (eqb-false b 0x1E high.1);
   }
-    where
-      same : (b : ℕ) → b ≢ 0x1C → b ≢ 0x1E → laid (page_in cpu.mem) set b ≡ cpu.mem b
-      same b not_y not_x = past_low 0x1C h (page_in cpu.mem) (put 0x1E l cpu.mem) refl refl b not_y
-          ∙ past_low 0x1E l (page_in cpu.mem) cpu.mem refl refl b not_x
-          ∙ sym (ap (λ (m : ℕ → ℕ). m b) (known cpu.mem enters.loaded))
 
--- no frame is being built
-pub put_refused : (cpu : Cpu) → Enters cpu 0x6957 → nat_eq (cpu.mem 0x10) 7 ≡ false → Refuses cpu
-put_refused cpu enters other = unchanged cpu 0x6957 enters
-    (put_refuses cpu.s cpu.a cpu.x cpu.y cpu.s cpu.n cpu.z cpu.c cpu.v cpu.d cpu.i (cpu.mem 0x11) (cpu.mem 0x12)
-    (cpu.mem 0x13) (cpu.mem 0x14) (cpu.mem 0x15) (cpu.mem 0x16) (cpu.mem 0x17) (cpu.mem 0x18) (cpu.mem 0x19) (cpu.mem 0x1A)
-    cpu.mem cpu.flags [] (cpu.mem 0x10) (enters.loaded.bytes 0x10) other)
+  pub labs_refused : nat_eq (cpu.mem 0x10) 7 ≡ false → Refuses cpu
+  labs_refused is = labs_as_pair (arrives cpu.s 12 (Goes true ∷ []) from (other cpu dvg_labs enters 7 (omega arith) is, tt)
+      refl refl refl (λ tables also. refl))
 
-pub pair_refused : (cpu : Cpu) → Enters cpu 0x6989 → nat_eq (cpu.mem 0x10) 7 ≡ false → Refuses cpu
-pair_refused cpu enters other = unchanged cpu 0x6989 enters
-    (pair_refuses cpu.s cpu.a cpu.x cpu.y cpu.s cpu.n cpu.z cpu.c cpu.v cpu.d cpu.i (cpu.mem 0x10) (cpu.mem 0x11) (cpu.mem 0x12)
-    (cpu.mem 0x13) (cpu.mem 0x14) (cpu.mem 0x15) (cpu.mem 0x16) (cpu.mem 0x17) (cpu.mem 0x18) (cpu.mem 0x19) (cpu.mem 0x1A)
-    cpu.mem cpu.flags [] (enters.loaded.bytes 0x10) other)
-
-pub labs_refused : (cpu : Cpu) → Enters cpu 0x6979 → nat_eq (cpu.mem 0x10) 7 ≡ false → Refuses cpu
-labs_refused cpu enters other = labs_as_pair cpu enters
-    (pair_refuses cpu.s (h cpu enters) cpu.x cpu.y cpu.s (nat_le 128 (h cpu enters)) (nat_eq (h cpu enters) 0) cpu.c cpu.v cpu.d cpu.i
-    (cpu.mem 0x10) (cpu.mem 0x11) (cpu.mem 0x12)
-    (cpu.mem 0x13) (cpu.mem 0x14) (cpu.mem 0x15) (cpu.mem 0x16) (cpu.mem 0x17) (cpu.mem 0x18) (cpu.mem 0x19) (cpu.mem 0x1A)
-    (set cpu enters) cpu.flags (log4 cpu enters) (enters.loaded.bytes 0x10) other)
-
--- there is no room
-pub full_put : (cpu : Cpu) → Enters cpu 0x6957 → cpu.mem 0x10 ≡ 7 → nat_le 3 (cpu.mem 0x16) ≡ true
-    → nat_le 0xFE (cpu.mem 0x13) ≡ true → Refuses cpu
-full_put cpu enters is last late = unchanged cpu 0x6957 enters
-    (subst (λ p. Comes cpu.s (at 0x6957 cpu.a cpu.x cpu.y cpu.s cpu.n cpu.z cpu.c cpu.v cpu.d cpu.i (laid (page_of p (cpu.mem 0x11)
-    (cpu.mem 0x12) (cpu.mem 0x13) (cpu.mem 0x14) (cpu.mem 0x15) (cpu.mem 0x16) (cpu.mem 0x17) (cpu.mem 0x18) (cpu.mem 0x19)
-    (cpu.mem 0x1A)) cpu.mem) cpu.flags []) cpu.s true (laid (page_of p (cpu.mem 0x11)
-    (cpu.mem 0x12) (cpu.mem 0x13) (cpu.mem 0x14) (cpu.mem 0x15) (cpu.mem 0x16) (cpu.mem 0x17) (cpu.mem 0x18) (cpu.mem 0x19)
-    (cpu.mem 0x1A)) cpu.mem) [] []) (sym is)
-    (put_full cpu.s cpu.a cpu.x cpu.y cpu.s cpu.n cpu.z cpu.c cpu.v cpu.d cpu.i (cpu.mem 0x11) (cpu.mem 0x12)
-    (cpu.mem 0x13) (cpu.mem 0x14) (cpu.mem 0x15) (cpu.mem 0x16) (cpu.mem 0x17) (cpu.mem 0x18) (cpu.mem 0x19) (cpu.mem 0x1A)
-    cpu.mem cpu.flags [] last late))
-
-pub full_pair : (cpu : Cpu) → Enters cpu 0x6989 → cpu.mem 0x10 ≡ 7 → nat_le 3 (cpu.mem 0x16) ≡ true
-    → nat_le 0xFC (cpu.mem 0x13) ≡ true → Refuses cpu
-full_pair cpu enters is last late = unchanged cpu 0x6989 enters
-    (subst (λ p. Comes cpu.s (at 0x6989 cpu.a cpu.x cpu.y cpu.s cpu.n cpu.z cpu.c cpu.v cpu.d cpu.i (laid (page_of p (cpu.mem 0x11)
-    (cpu.mem 0x12) (cpu.mem 0x13) (cpu.mem 0x14) (cpu.mem 0x15) (cpu.mem 0x16) (cpu.mem 0x17) (cpu.mem 0x18) (cpu.mem 0x19)
-    (cpu.mem 0x1A)) cpu.mem) cpu.flags []) cpu.s true (laid (page_of p (cpu.mem 0x11)
-    (cpu.mem 0x12) (cpu.mem 0x13) (cpu.mem 0x14) (cpu.mem 0x15) (cpu.mem 0x16) (cpu.mem 0x17) (cpu.mem 0x18) (cpu.mem 0x19)
-    (cpu.mem 0x1A)) cpu.mem) [] []) (sym is)
-    (pair_full cpu.s cpu.a cpu.x cpu.y cpu.s cpu.n cpu.z cpu.c cpu.v cpu.d cpu.i (cpu.mem 0x11) (cpu.mem 0x12)
-    (cpu.mem 0x13) (cpu.mem 0x14) (cpu.mem 0x15) (cpu.mem 0x16) (cpu.mem 0x17) (cpu.mem 0x18) (cpu.mem 0x19) (cpu.mem 0x1A)
-    cpu.mem cpu.flags [] last late))
-
-pub full_labs : (cpu : Cpu) → Enters cpu 0x6979 → cpu.mem 0x10 ≡ 7 → nat_le 3 (cpu.mem 0x16) ≡ true
-    → nat_le 0xFC (cpu.mem 0x13) ≡ true → Refuses cpu
-full_labs cpu enters is last late = labs_as_pair cpu enters
-    (subst (λ p. Comes cpu.s (at 0x6989 (h cpu enters) cpu.x cpu.y cpu.s (nat_le 128 (h cpu enters))
-    (nat_eq (h cpu enters) 0) cpu.c cpu.v cpu.d cpu.i (laid (page_of p (cpu.mem 0x11)
-    (cpu.mem 0x12) (cpu.mem 0x13) (cpu.mem 0x14) (cpu.mem 0x15) (cpu.mem 0x16) (cpu.mem 0x17) (cpu.mem 0x18) (cpu.mem 0x19)
-    (cpu.mem 0x1A)) (set cpu enters)) cpu.flags (log4 cpu enters)) cpu.s true (laid (page_of p (cpu.mem 0x11)
-    (cpu.mem 0x12) (cpu.mem 0x13) (cpu.mem 0x14) (cpu.mem 0x15) (cpu.mem 0x16) (cpu.mem 0x17) (cpu.mem 0x18) (cpu.mem 0x19)
-    (cpu.mem 0x1A)) (set cpu enters)) [] []) (sym is)
-    (pair_full cpu.s (h cpu enters) cpu.x cpu.y cpu.s (nat_le 128 (h cpu enters)) (nat_eq (h cpu enters) 0) cpu.c cpu.v cpu.d cpu.i
-    (cpu.mem 0x11) (cpu.mem 0x12)
-    (cpu.mem 0x13) (cpu.mem 0x14) (cpu.mem 0x15) (cpu.mem 0x16) (cpu.mem 0x17) (cpu.mem 0x18) (cpu.mem 0x19) (cpu.mem 0x1A)
-    (set cpu enters) cpu.flags (log4 cpu enters) last late))
+  pub full_labs : cpu.mem 0x10 ≡ 7 → nat_le 3 (cpu.mem 0x16) ≡ true → nat_le 0xFC (cpu.mem 0x13) ≡ true → Refuses cpu
+  full_labs is last late = labs_as_pair (arrives cpu.s 17 (Goes false ∷ Goes false ∷ Goes true ∷ []) from
+      (builds cpu dvg_labs enters is, (ap not last, (late, tt))) refl refl refl (λ tables also. refl))
 
 -- dvg_labs, up to where it is dvg_pair
-module _ (cpu : Cpu) (enters : Enters cpu 0x6979) where
-  abbrev now : Cpu
-  now = paired cpu enters
-
-  labs_at : run cpu.s 8 cpu ≡ now
-  labs_at = sym (ap (run cpu.s 8) (here_is cpu 0x6979 enters))
-      ∙ labs_run cpu.s cpu.a cpu.x cpu.y cpu.s cpu.n cpu.z cpu.c cpu.v cpu.d cpu.i (page_in cpu.mem) cpu.mem cpu.flags []
-
-  labs_kept : (b : ℕ) → b ≢ 0x1C → b ≢ 0x1E → now.mem b ≡ cpu.mem b
-  labs_kept b not_y not_x = past_low 0x1C (h cpu enters) (page_in cpu.mem) (put 0x1E (l cpu enters) cpu.mem) refl refl b not_y
-      ∙ past_low 0x1E (l cpu enters) (page_in cpu.mem) cpu.mem refl refl b not_x
-      ∙ sym (ap (λ (m : ℕ → ℕ). m b) (known cpu.mem enters.loaded))
-
-  labs_words : put_by Pair now ≡ put_by Labs cpu
-  labs_words = ap (λ h. cpu.mem 0x1B ∷ h ∷ cpu.mem 0x1D ∷ l cpu enters ∷ []) (opened (cpu.mem 0x1C) (enters.loaded.bytes 0x1C))
-      ∙ ap (λ l. cpu.mem 0x1B ∷ (0xA0 + cpu.mem 0x1C % 16) ∷ cpu.mem 0x1D ∷ l ∷ [])
-      (mixed cpu.a (cpu.mem 0x1E) enters.a (enters.loaded.bytes 0x1E))
-
-  labs_alone : are_steady is_labs cpu.s 8 cpu ≡ true
-  labs_alone = ap (are_steady is_labs cpu.s 8) (sym (here_is cpu 0x6979 enters))
-
 pub labs_is_pair : LabsIsPair
 labs_is_pair cpu enters =
-    let at_pair = labs_at cpu enters in
+    let it = start dvg_labs cpu in
+    let at_start = from_is cpu enters in
+    let at_pair = sym (ap (run cpu.s 8) at_start) ∙ runs cpu.s 8 [] it tt in
     record {
       place = ap (λ (k : Cpu). k.pc) at_pair;
       stack = ap (λ (k : Cpu). k.s) at_pair;
       shows = ap (λ (k : Cpu). seen k.log) at_pair;
-      words = ap (put_by Pair) at_pair ∙ labs_words cpu enters;
-      kept = λ b not_y not_x. ap (λ (k : Cpu). k.mem b) at_pair ∙ labs_kept cpu enters b not_y not_x;
-      alike = λ others harmless. came_out is_labs cpu.s 8 cpu cpu.mem others (λ b is. refl) (labs_alone cpu enters) harmless;
+      words = ap (put_by Pair) at_pair ∙ ap (λ h. cpu.mem 0x1B ∷ h ∷ cpu.mem 0x1D ∷ l cpu enters ∷ []) (h_is cpu enters)
+          ∙ ap (λ l. cpu.mem 0x1B ∷ (0xA0 + cpu.mem 0x1C % 16) ∷ cpu.mem 0x1D ∷ l ∷ []) (l_is cpu enters);
+      kept = λ b not_y not_x. ap (λ (k : Cpu). k.mem b) at_pair ∙ made_kept cpu enters b not_y not_x;
+      alike = λ others harmless. came_out is_labs cpu.s 8 cpu cpu.mem others (λ b is. refl)
+          (subst (λ (k : Cpu). are_steady is_labs cpu.s 8 k ≡ true) at_start (is_steadily is_labs cpu.s 8 [] it tt refl)) harmless;
     }

@@ -14,7 +14,7 @@ use Rattle.dvg_calls_6502.proofs.Memory.{AreSmall, both_true, le_not}
 use Rattle.dvg_calls_6502.proofs.Masks.{both_zero, topped, lowered, eighted, shortened}
 use Rattle.dvg_calls_6502.proofs.VectorRun.{Led, more, magnitude, high_of, here, Beyond, both_in}
 use Rattle.dvg_calls_6502.proofs.VectorRun.{first_out, second_out, scale_out, scale_in, beyond_more}
-use Rattle.dvg_calls_6502.proofs.WordsRun.{ToPut, ToPair, long_some, long_small, long_large, short_fits, put_more, pair_more}
+use Rattle.dvg_calls_6502.proofs.VectorRun.{ToPut, ToPair, long_some, long_small, long_large, short_fits, put_more, pair_more}
 
 -- a number by its sign and its word
 abbrev pub signed_of : Bool → ℕ → ℤ

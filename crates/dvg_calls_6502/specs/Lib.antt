@@ -12,6 +12,7 @@ pub mod Routines
 pub mod Calls
 pub mod Build
 pub mod Whole
+pub mod Copy
 pub mod Decided
 pub mod Programs
 pub mod Joined

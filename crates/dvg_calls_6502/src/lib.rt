@@ -1,5 +1,5 @@
-//! The 6502 code of the driver, proved from its bytes: each routine does what the script says, but
-//! for dvg_copy, of which no law speaks: it is tested.
+//! The 6502 code of the driver, proved from its bytes: each routine does what the script says. Of
+//! dvg_copy the laws of single calls and of frames speak (`copies`), and none of many calls.
 //! There is no code here. Each law is the contract of a function that does nothing.
 #![tactic(auto)]
 
@@ -18,6 +18,7 @@ ghost use Rattle.dvg_calls_6502.specs.Build.{IdleTicks, IdleTicksAll, LabsTakes,
 ghost use Rattle.dvg_calls_6502.specs.Build.{OpenTakes, PairTakes, PutTakes, PutsRefuse};
 ghost use Rattle.dvg_calls_6502.specs.Build.{RunReturns};
 ghost use Rattle.dvg_calls_6502.specs.Build.{VectorRefuses, VectorTakes};
+ghost use Rattle.dvg_calls_6502.specs.Copy.{CopiesFrame, CopyRefuses, CopyTakes, SomeCopies};
 ghost use Rattle.dvg_calls_6502.specs.Moves.{SomeVectors, VectorDraws};
 ghost use Rattle.dvg_calls_6502.specs.Whole.{BuildsFrame, BuildsLife, SomeFrame};
 ghost use Rattle.dvg_calls_6502.specs.Tables.{CheckedExpressible, TableLaw, TableMisses};
@@ -187,4 +188,16 @@ pub fn decides()
     ensures idle { StaysIdle }
     ensures building { StaysBuilding }
     ensures labs { LabsIsPair }
+{}
+
+/// `dvg_copy`, by its bytes: where a frame is being built and there is room, it puts what it
+/// copies, byte by byte, as calls of `dvg_put` would, and returns with C clear; else it is refused.
+/// It wants D clear, an even count, and a source apart from the hardware and from the driver's
+/// bytes. Calls of it, among those of `builds_frame`, build a whole frame, also amid interrupts
+/// that leave the source alone, too. There are such calls.
+pub fn copies()
+    ensures takes { CopyTakes }
+    ensures refuses { CopyRefuses }
+    ensures frame { CopiesFrame }
+    ensures some { SomeCopies }
 {}
