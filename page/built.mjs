@@ -2,7 +2,7 @@
 // driver, the games, the examples, and what is said of faults. assemble.py adds dvg.wasm.
 import { readFileSync, readdirSync } from 'node:fs';
 import { explainedFaults } from './advice.mjs';
-import { packedGames } from './games.mjs';
+import { packedCave, packedGames } from './games.mjs';
 
 const page = new URL('.', import.meta.url).pathname;
 
@@ -28,7 +28,7 @@ function sketches() {
 const logs = { ...textsOf('logs', /\.log$/), ...textsOf('moments', /\.log$/) };
 const constants = {
   LISTING: readFileSync(`${page}driver.listing`, 'utf8'),
-  GAMES: packedGames().map(({ folder, ...game }) => game),
+  GAMES: [...packedGames(), packedCave()].map(({ folder, ...game }) => game),
   FRAMES: framesOfExamples(),
   FILES: { ...sketches(), ...logs, ...textsOf('traces', null) },
   ADVICE: explainedFaults(),

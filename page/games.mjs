@@ -26,6 +26,13 @@ function unfilled(rom) {
   return rom.subarray(0, size);
 }
 
+// The game of the first view, examples/cave, whose bytes page/cave wrote: no law speaks of it, but
+// `make proof` does. It has labels, too.
+export function packedCave() {
+  const text = readFileSync(new URL('cave.json', import.meta.url), 'utf8');
+  return { folder: 'cave', name: 'Cave', ...JSON.parse(text) };
+}
+
 // Each game: its folder, its name on the page, its bytes behind the driver, its vectors, and its
 // vector ROM without filler, all in base64.
 export function packedGames() {

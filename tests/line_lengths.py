@@ -15,7 +15,7 @@ DATA = re.compile(
 # planted mistake has each of its texts in one line. `rt fmt` lays out what is proved: *.antt.
 EXEMPT = re.compile(
     r"\.antt$|^plain/crates/"
-    r"|^page/(dvg\.html|dvg\.wasm\.made|driver\.listing|src/tables\.mjs)$"
+    r"|^page/(dvg\.html|cave\.json|dvg\.wasm\.made|driver\.listing|src/tables\.mjs)$"
     r"|^tests/(tool_)?cases/.*\.md$|^tests/parts/compare/mistakes$"
     r"|^crates/[^/]+/wrong-(bodies|laws)\.edits$|^tests/refused$")
 

@@ -41,11 +41,12 @@ const POKEY_SWITCHES = 0xFD, POKEY_READS = { SWITCHES: POKEY + 8, RANDOM: POKEY 
 
 /* What is counted from a moment on. Of the runs `drew` are those that drew a half, `broke` those
  * that a fault of their list ended, `left` those that a strobe abandoned, and `firstLeft` is the
- * number of the first of these, from 1 on; `ignored` are strobes. */
+ * number of the first of these, from 1 on; `ignored` are strobes. Of the pictures those are
+ * `judged` whose runs fetched more than word zero, or are mixed. */
 function countsOf(cycles) {
   return {
-    from: cycles, pictures: 0, torn: 0, early: 0, first: null, left: 0, resets: 0, fetched: 0,
-    written: 0, runs: 0, drew: 0, broke: 0, firstLeft: 0, ignored: 0,
+    from: cycles, pictures: 0, judged: 0, torn: 0, early: 0, first: null, left: 0, resets: 0,
+    fetched: 0, written: 0, runs: 0, drew: 0, broke: 0, firstLeft: 0, ignored: 0,
   };
 }
 
@@ -66,7 +67,8 @@ export class Arcade {
     this.isDeluxe = shapes.length > 2048;
     this.latches = new Latches(this.isDeluxe);
     Object.assign(this, { wireCut: false, slow: 1, ignored: false });
-    Object.assign(this, { running: false, isMixed: false, swapped: 0, at: 0, fault: '' });
+    Object.assign(this, { running: false, isMixed: false, isFar: false, swapped: 0 });
+    Object.assign(this, { at: 0, fault: '' });
     Object.assign(this, { picture: null, number: 0, isOld: false });
     this.words = new WordTimes();
     this.processor = new Processor(this);
@@ -167,7 +169,7 @@ export class Arcade {
     this.tell(KIND.STARTED);
     this.halves.started();
     this.words.begin();
-    Object.assign(this, { running: true, isMixed: false, isOld: false });
+    Object.assign(this, { running: true, isMixed: false, isFar: false, isOld: false });
     this.fetchAt = this.processor.cycles;
   }
 
@@ -186,6 +188,7 @@ export class Arcade {
     const got = this.map[address] === AREA.HOLE ? this.generator.fetchHole()
       : this.generator.fetch(this.memory[AT.VECTORS + 2 * address + side]);
     this.counts.fetched++;
+    this.isFar ||= address !== 0;
     this.tell(got.kind, got.address, got.value);
     if (got.kind === KIND.LOW) this.passTime(0);
     else if (got.kind === KIND.BROKE) this.breakOff();
@@ -218,6 +221,7 @@ export class Arcade {
     this.picture = { id: this.number, strokes: this.generator.strokes(), torn: this.isMixed };
     if (this.isOld) return;
     this.counts.pictures++;
+    if (this.isMixed || this.isFar) this.counts.judged++;
     if (this.isMixed) this.counts.torn++;
   }
 

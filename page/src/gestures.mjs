@@ -92,7 +92,8 @@ export function listenToFiles(open) {
     event.preventDefault();
     open([new File([text], 'what was pasted')], null);
   });
-  for (const [id, kind] of [['open', null], ['open-rom', 'rom'], ['open-game', null]]) {
+  for (const [id, kind] of [['open', null], ['open-rom', 'rom'], ['open-game', null],
+    ['open-both', null]]) {
     byId(id).addEventListener('change', (event) => {
       const files = [...event.target.files];
       if (files.length > 0) open(files, kind);

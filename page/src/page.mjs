@@ -26,6 +26,8 @@ import {
 } from './words.mjs';
 import { builtGame } from './eproms.mjs';
 import { Play, listenToPlay } from './play.mjs';
+import { FIRST_TWICE, Twice, listenToTwice } from './twice.mjs';
+import { labelsOf } from './programs.mjs';
 import { DRIVER_END, START } from './tables.mjs';
 import { linesOfListing } from './twin.mjs';
 import { SCENES } from './playfield.mjs';
@@ -40,8 +42,6 @@ const FIRST = { a: FIRST_A, b: FIRST_B }, FIRST_EVENTS = 2600;
 
 /* What leads to the opening of the board, in the part of an address that no browser sends. */
 const OPENING_HASH = '#opening';
-/* The link of the first game. */
-const FIRST_GAME = plainFragment({ game: GAMES[0].name });
 const LOG_BEFORE = 12, LOG_AFTER = 4;
 /* Why what is grey is so: of a recording, and of a board with as many events as it holds. */
 const ELSEWHERE = 'This is a recording: it can be looked at, not run.';
@@ -65,8 +65,8 @@ let engine, drawer, tube, board, schedule = null, running = false;
 /* How many events are to go while it runs. */
 let toGo = 0;
 /* What shows a concern of its own: the verdicts, the driver's code, files that are opened, and a
- * game. `fitSizes` gives canvases that come into view their size. */
-let verdicts, code, drops, play, fitSizes;
+ * game, alone or twice. `fitSizes` gives canvases that come into view their size. */
+let verdicts, code, drops, play, twice, fitSizes;
 /* What is shown: the board, or a recording of what happened elsewhere. */
 let shown;
 /* When texts were shown, when a frame was, and whose turn it is to be drawn. */
@@ -76,6 +76,10 @@ let at = 0;
 let lesson = 0;
 let editorA, editorB, editorR, screen, rows, memory, colors, tour;
 const drawings = new Map(), frameTimes = [];
+
+/* The canvases that are as large as they are shown. */
+const FITTED = ['screen', 'rows', 'memory', 'tube', 'past', 'tube-whole', 'rows-whole', 'tube-cut',
+  'rows-cut'];
 
 /* --- Beginning anew --- */
 
@@ -335,7 +339,7 @@ function readColors() {
     early: of('early'), glows: [null, of('early-glow'), of('torn-glow')], good: of('good'),
     shade: of('shade'),
   };
-  if (play !== undefined) play.colors = colors;
+  for (const one of [play, twice]) if (one !== undefined) one.colors = colors;
 }
 
 /* After something has happened or was chosen. */
@@ -622,45 +626,58 @@ function nameOr(text) {
 async function loadFragment() {
   try {
     const state = withLesson(await stateOf(location.hash));
-    const isGame = location.hash.length <= 1 || state.game !== undefined;
+    const isTwice = location.hash.length <= 1 || state.both !== undefined;
+    const isGame = state.game !== undefined;
     document.body.classList.toggle('embed', state.embed === '1');
     // In a frame there is no room for a question.
     play.mayAsk = state.embed !== '1';
-    showGame(isGame);
-    if (isGame) beginGame(state);
+    showView(VIEWS[isTwice ? 'twice' : isGame ? 'game' : 'board']);
+    if (isTwice) beginTwice(state);
+    else if (isGame) beginGame(state);
     else if (location.hash === OPENING_HASH) showNewcomer();
     else loadState(state);
   } catch (fault) {
     const told = `This link holds no state: ${fault.message}.`;
-    showGame(false);
+    showView(VIEWS.board);
     if (board === undefined) loadState(FIRST);
     tell(told, true);
     tellFile('The link', told, true);
   }
 }
 
-/* Shows a game in place of the board, or the board. */
-function showGame(isShown) {
+/* What the body is called while a view is shown. */
+const VIEWS = { twice: 'twice', game: 'plays', board: '' };
+
+/* Shows a game twice, or alone, or the board. */
+function showView(view) {
   if (running) setRunning(false);
-  document.body.classList.toggle('plays', isShown);
-  play.setShown(isShown);
+  for (const one of [VIEWS.twice, VIEWS.game]) document.body.classList.toggle(one, one === view);
+  play.setShown(view === VIEWS.game);
+  twice.setShown(view === VIEWS.twice);
   fitSizes();
 }
 
-/* The game of a state, or the first one, unless there is one; at rest for someone who wants less
- * motion. */
+/* The game of a state on both boards, or the first one, unless there is one; with less motion its
+ * first tear as a still. */
+function beginTwice({ both }) {
+  if (twice.game !== null && both === undefined) return;
+  const name = both ?? FIRST_TWICE, game = twice.games.find((one) => one.name === name);
+  if (game === undefined) throw new Error(`no game is called ${name}`);
+  const beam = name === FIRST_TWICE ? 1 : undefined;
+  twice.begin(name, game, { beam, isStill: wantsLessMotion() });
+}
+
+/* The game of a state; at rest for someone who wants less motion. */
 function beginGame(state) {
-  if (state.game !== undefined) play.openState(state);
-  else if (play.arcade === null) play.openBuilt(0, true);
-  else return;
+  play.openState(state);
   if (wantsLessMotion()) play.setPaused(true);
 }
 
 /* The address tells of a game that is built in which one it is, and what is asked of its board. */
 function showAddress() {
   if (!play.isShown || play.number < 0 || document.body.classList.contains('embed')) return;
-  const fragment = plainFragment(play.state), wanted = fragment === FIRST_GAME ? '' : fragment;
-  if (location.hash !== wanted) history.replaceState(null, '', wanted || '#');
+  const fragment = plainFragment(play.state);
+  if (location.hash !== fragment) history.replaceState(null, '', fragment);
 }
 
 /* A link to the game; it holds one that was dropped, too. */
@@ -678,10 +695,31 @@ async function makeGameLink() {
 async function openFiles(files, kind) {
   const read = await Promise.all(files.map(async (file) => (
     { name: file.name, bytes: new Uint8Array(await file.arrayBuffer()) })));
-  if (kind === null && await openGame(read)) return;
+  if (kind === null && await (twice.isShown ? openTwice : openGame)(read)) return;
+  await openOnBoard(files[0], kind);
+}
+
+async function openOnBoard(file, kind) {
   if (board === undefined) loadState(FIRST);
-  showGame(false);
-  await drops.open(files[0], kind);
+  showView(VIEWS.board);
+  await drops.open(file, kind);
+}
+
+/* Opens files as a game on both boards, or says why they are none: of what the board shows, which
+ * isn't opened, it returns false. */
+async function openTwice(read) {
+  const { fault, name, game, said } = await play.readGame(read, true), [{ bytes }] = read;
+  const why = fault === '' ? whyNotShown(bytes) : fault ?? '';
+  if (fault === null) twice.begin(name, game, { said, isStill: wantsLessMotion() });
+  else if (why !== '') twice.say(`${read[0].name}: ${why}`);
+  return fault === null || why !== '';
+}
+
+/* The run that tore, as a log on the board. */
+async function openTape() {
+  const log = new File([twice.log], `of a run of ${twice.name}, its wire cut`);
+  history.pushState(null, '', '#');
+  await openOnBoard(log, 'log');
 }
 
 /* Opens files as a game, or tells where they were dropped why they are none: a game that is shown
@@ -689,7 +727,7 @@ async function openFiles(files, kind) {
 async function openGame(read) {
   const fault = await play.openFiles(read), [{ name, bytes }] = read;
   if (fault === null) {
-    showGame(true);
+    showView(VIEWS.game);
     history.replaceState(null, '', '#');
     return true;
   }
@@ -1094,10 +1132,12 @@ function listenToHands() {
   listenToFiles(openFiles);
   const drawAll = () => {
     if (play?.isShown) play.drawAnew();
+    else if (twice?.isShown) twice.show();
     else if (board !== undefined) show();
   };
-  fitSizes = listenToSizes(['screen', 'rows', 'memory', 'tube', 'past'].map(byId), () => {
-    for (const fitted of [rows, memory, play?.strip]) fitted?.fit();
+  fitSizes = listenToSizes(FITTED.map(byId), () => {
+    const strips = [play?.strip, twice?.whole.strip, twice?.cut.strip];
+    for (const fitted of [rows, memory, ...strips]) fitted?.fit();
     drawAll();
   });
   matchMedia('(prefers-color-scheme: light)').addEventListener('change', () => {
@@ -1110,10 +1150,10 @@ function listenToHands() {
 function makePlay() {
   const lines = linesOfListing(LISTING), driver = new Uint8Array(DRIVER_END - START);
   for (const { at, bytes } of lines) if (bytes.length > 0) driver.set(bytes, at - START);
-  const games = GAMES.map(({ name, ...parts }) => {
+  const games = GAMES.map(({ name, labels = '', ...parts }) => {
     const bytes = Object.fromEntries(Object.entries(parts)
       .map(([part, text]) => [part, bytesOfBase64(text)]));
-    return { name, ...builtGame(bytes, driver) };
+    return { name, ...builtGame(bytes, driver), labels: labelsOf(labels) };
   });
   play = Object.assign(new Play(engine, games, driver), { colors });
   byId('games').replaceChildren(...games.map(({ name }, k) => {
@@ -1124,6 +1164,17 @@ function makePlay() {
   play.onChange = showAddress;
   listenToPlay(play);
   byId('game-link').addEventListener('click', makeGameLink);
+  makeTwice(games, driver);
+}
+
+function makeTwice(games, driver) {
+  twice = Object.assign(new Twice(engine, Object.assign(games, { driver })), { colors });
+  byId('both-game').append(...games.map(({ name }) => new Option(name)));
+  byId('both-game').addEventListener('change', () => {
+    location.hash = plainFragment({ both: byId('both-game').value });
+  });
+  byId('these-bytes').addEventListener('click', openTape);
+  listenToTwice(twice);
 }
 
 function makeEditors() {
@@ -1171,9 +1222,18 @@ async function begin() {
   drops = new Drops(engine, drawer, DROP_STAGE);
   makePlay();
   addEventListener('hashchange', loadFragment);
-  // This link changes no fragment where there is none.
-  document.querySelector('.to-game').addEventListener('click', () => {
-    if (location.hash === '') loadFragment();
+  // These links change no fragment where there is none.
+  for (const link of document.querySelectorAll('a[href="#"]')) {
+    link.addEventListener('click', () => {
+      if (location.hash === '') loadFragment();
+    });
+  }
+  // This one leads back to a game that there is.
+  document.querySelector('.to-game').addEventListener('click', (event) => {
+    if (play.arcade === null) return;
+    event.preventDefault();
+    showView(VIEWS.game);
+    showAddress();
   });
   await loadFragment();
   showPreviews();

@@ -7,6 +7,9 @@ import {
 import { listenToRows } from './gestures.mjs';
 import { base64Of, hex } from './hex.mjs';
 import { byId, setText } from './parts.mjs';
+import {
+  bytesVerdict, picturesVerdict, resetsVerdict, runsVerdict, showVerdict,
+} from './judged.mjs';
 import { KeptArcade } from './past.mjs';
 import { Player, listenToPlayer } from './player.mjs';
 import { Program, isDriver } from './programs.mjs';
@@ -39,24 +42,19 @@ function withMistake(program) {
   return changed;
 }
 
-/* A verdict: its word with a colour, and what follows it. */
-function tellVerdict(id, color, word, text) {
-  const element = byId(id), strong = element.firstElementChild;
-  strong.className = color;
-  setText(strong, word);
-  setText(element.lastElementChild, text);
-}
-
-/* What has come of a change: it tears, goes dark or goes on; or nothing, as no run has ended. */
-export function outcomeOf({ torn, left, pictures }) {
+/* What has come of a change: it tears, is reset, goes dark or goes on; or nothing, as no run has
+ * ended. */
+export function outcomeOf({ torn, left, pictures, resets }) {
   if (torn > 0) return 'tears';
   if (left + pictures === 0) return 'none';
+  if (resets > 0) return 'reset';
   return left > pictures ? 'dark' : 'on';
 }
 const OUTCOMES = {
   tears: 'it tears',
   dark: 'it goes dark',
   on: 'it goes on',
+  reset: 'it is reset again and again',
 };
 
 /* What an instruction does that writes into an area, by the sign of its slot. */
@@ -89,23 +87,29 @@ export class Play extends Player {
     if (isOpening) this.script = [...OPENING];
   }
 
-  /* Begins the game that files are of. Returns null, or why there is none among them; of files that
-   * aren't of a game ''. */
-  async openFiles(list) {
+  /* The game that files are of: its name, and what is said of it; or the fault, why there is none
+   * among them, and of files that aren't of a game ''. `isWanted` says that a game is shown. */
+  async readGame(list, isWanted) {
     const name = list.map((file) => file.name).join(', ');
     const files = await unzipped(list).catch(() => null);
-    if (files === null) return `${name}: it can't be unpacked.`;
-    const fault = lengthFault(files) || (this.isShown ? romAlone(files) : '');
-    if (fault !== '') return fault;
+    if (files === null) return { fault: `${name}: it can't be unpacked.` };
+    const fault = lengthFault(files) || (isWanted ? romAlone(files) : '');
+    if (fault !== '') return { fault };
     const isGame = [...list, ...files].some(({ bytes }) => isOfGame(bytes))
-      || (this.isShown && files.some(isSocketOfProgram));
+      || (isWanted && files.some(isSocketOfProgram));
     const game = isGame ? gameOf(files) : null;
-    if (game === null) return '';
+    if (game === null) return { fault: '' };
     const shapes = game.hasShapes ? '' : ' Its vector ROM isn\'t among them, so it calls nothing: '
       + 'drop both at once.';
     const sockets = game.missing === '' ? '' : ` ${game.missing} of its sockets aren't among them.`;
-    this.begin(name, game, `${name}.${sockets}${shapes}`);
-    return null;
+    return { fault: null, name, game, said: `${name}.${sockets}${shapes}` };
+  }
+
+  /* Begins the game that files are of. Returns the fault, or null. */
+  async openFiles(list) {
+    const { fault, name, game, said } = await this.readGame(list, this.isShown);
+    if (fault === null) this.begin(name, game, said);
+    return fault;
   }
 
   /* Says something beside what opens a game: the game that is there goes on. */
@@ -216,6 +220,9 @@ export class Play extends Player {
     const { wireCut, counts } = this.arcade;
     if (outcome === 'tears') {
       return 'the game wrote the next picture into the one that was being drawn.';
+    }
+    if (outcome === 'reset') {
+      return 'the game waits so long for the beam that it comes too late to the watchdog.';
     }
     if (outcome === 'dark') {
       return 'each strobe that comes while the beam draws starts it anew, so hardly a picture is '
@@ -334,13 +341,14 @@ export class Play extends Player {
     const [first, ...others] = lines;
     if (verdict === VERDICT.REFUSED) {
       const count = counted(lines.length, 'instruction');
-      tellVerdict('every', 'bad', 'Refused', `: ${count} may tear a picture, or lead where this `
-        + 'check can\'t follow. Why:');
+      showVerdict(byId('every'), { word: 'Refused', color: 'bad', text: `: ${count} may tear a `
+        + 'picture, or lead where this check can\'t follow. Why:' });
       setText(byId('every-lines'), lines.join('\n'));
     } else {
       const isGood = verdict === VERDICT.GOOD;
-      tellVerdict('every', isGood ? 'good' : 'early', isGood ? 'Accepted' : 'Not sure',
-        `: ${isGood ? 'no run of these bytes tears a picture' : first}.`);
+      showVerdict(byId('every'), { word: isGood ? 'Accepted' : 'Not sure',
+        color: isGood ? 'good' : 'early', text: `: ${isGood
+          ? 'no run of these bytes tears a picture, while the HALT wire is whole' : first}.` });
       setText(byId('every-lines'), others.join('\n'));
     }
     byId('every').dataset.verdict = verdict;
@@ -350,41 +358,18 @@ export class Play extends Player {
 
   showTexts() {
     const { arcade } = this, { counts } = arcade;
-    this.showPictures(counts);
-    this.showHalves(counts);
-    this.showRuns(counts);
+    const { first } = counts, firstText = first === null ? '.' : this.firstText(first);
+    showVerdict(byId('run-moments'), picturesVerdict(counts));
+    showVerdict(byId('run-halves'), bytesVerdict(counts, firstText));
+    showVerdict(byId('run-left'), runsVerdict(counts));
+    const resets = resetsVerdict(counts);
+    byId('run-resets').hidden = resets === null;
+    if (resets !== null) showVerdict(byId('run-resets'), resets);
     setText(byId('run-counts'), this.countsText());
     byId('show-byte').hidden = counts.torn === 0 || arcade.past.torn === null;
     setText(byId('what-text'), this.whatText);
     byId('guesses').hidden = !this.asks;
     byId('wire-note').hidden = !arcade.wireCut;
-  }
-
-  showPictures({ pictures, torn }) {
-    const color = torn ? 'bad' : 'good', word = torn ? 'Torn' : 'Whole';
-    if (pictures === 0) tellVerdict('run-moments', '', '', 'No picture is finished yet.');
-    else if (torn) tellVerdict('run-moments', color, word, `: ${torn} of ${pictures} pictures.`);
-    else tellVerdict('run-moments', color, word, `: each of ${counted(pictures, 'picture')}.`);
-  }
-
-  /* Bytes are in time only where a run drew a half, and some were written. */
-  showHalves({ early, first, drew, written }) {
-    const tell = (...words) => tellVerdict('run-halves', ...words);
-    if (early > 0) tell('early', 'Early', `: ${counted(early, 'byte')}${this.firstText(first)}`);
-    else if (drew > 0 && written > 0) tell('good', 'In time', ': each byte.');
-    else tell('', '', 'No byte is judged yet.');
-  }
-
-  /* Runs are finished only where some came to HALT. */
-  showRuns({ pictures, left, firstLeft, broke }) {
-    const tell = (...words) => tellVerdict('run-left', ...words);
-    if (left > 0) {
-      tell('bad', 'Abandoned', `: ${counted(left, 'run')}, as a strobe came before HALT; the first `
-        + `is run ${firstLeft}.`);
-    } else if (broke > 0) {
-      tell('bad', 'Broken off', `: ${counted(broke, 'run')}, by a fault of the list drawn.`);
-    } else if (pictures > 0) tell('good', 'Finished', ': each run.');
-    else tell('', '', 'No run is finished yet.');
   }
 
   /* An instruction, by its label, or as the driver's. */
@@ -399,11 +384,10 @@ export class Play extends Player {
   }
 
   countsText() {
-    const { arcade } = this, { pictures, fetched, written, resets } = arcade.counts;
+    const { arcade } = this, { pictures, fetched, written } = arcade.counts;
     const { seconds } = arcade, rate = seconds > 0 ? (pictures / seconds).toFixed(1) : '0';
     const others = [`${fetched.toLocaleString('en')} bytes fetched`,
       `${written.toLocaleString('en')} written`];
-    if (resets > 0) others.push(`${counted(resets, 'reset')} by the watchdog`);
     if (arcade.fault !== '') others.push(`stopped: ${arcade.fault}`);
     return `${rate} pictures a second, ${seconds.toFixed(1)} s since ${this.since}: `
       + `${others.join(', ')}.`;

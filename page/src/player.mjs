@@ -11,7 +11,7 @@ const MOST_LATE = 100;
 /* How long a picture stays on the tube that is the last one, in seconds of the board. */
 const GLOW = 0.5;
 /* Which key is which button. */
-const GAME_KEYS = {
+export const GAME_KEYS = {
   ArrowLeft: 'left', ArrowRight: 'right', ArrowUp: 'thrust', ' ': 'fire', Shift: 'hyperspace',
   5: 'coin', 1: 'start1', 2: 'start2',
 };
@@ -192,10 +192,12 @@ function listenToGameKeys(player) {
       const name = GAME_KEYS[event.key];
       const isTaken = event.target.closest?.(
         'button, select, input, textarea, a, summary, pre, [role="slider"]');
-      if (!player.isShown || name === undefined || isTaken) return;
-      if (event.ctrlKey || event.metaKey) return;
-      player.press(name, isDown);
-      event.preventDefault();
+      if (!player.isShown || name === undefined) return;
+      // A key that is let go is let go wherever the focus is by then.
+      if (isDown && (isTaken || event.ctrlKey || event.metaKey)) return;
+      if (isDown || !isTaken) player.press(name, isDown);
+      else player.arcade.press(name, false);
+      if (!isTaken) event.preventDefault();
     });
   }
 }

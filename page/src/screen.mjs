@@ -163,6 +163,15 @@ class Light {
     }
   }
 
+  /* The beam, as a spot on a point of the field, over what is shown. */
+  spot([x, y], color) {
+    const { context, scale } = this;
+    context.fillStyle = color;
+    context.beginPath();
+    context.arc(this.across(x), this.down(y), 9 * UNIT * scale, 0, 7);
+    context.fill();
+  }
+
   /* A ring around a point of the field, over what is shown. */
   ring([x, y], color) {
     const { context, scale } = this;
@@ -222,6 +231,24 @@ export class Screen {
     if (picture === null) return;
     if (tear === null) this.light.add(picture.strokes, BEAM, isDim ? 0.4 : 1);
     else this.addTear(picture, tear);
+  }
+
+  /* A run amid its strokes: those that it has drawn so far, and where the beam is; behind them thin
+   * what its frame draws, or both frames of a torn one. Those in `wrong` are of another frame. */
+  drawRun({ strokes, wanted, next, wrong }, count) {
+    const { width, height } = this.canvas, sofar = strokes.slice(0, count);
+    if (width === 0 || height === 0) return;
+    this.begin(null, false, null);
+    this.key = '';
+    const { light } = this, bad = sofar.filter((stroke) => wrong.has(stroke));
+    light.add(wanted, BEAM, 0.35, THIN);
+    light.add(next, TORN, 0.35, THIN, true);
+    light.add(sofar.filter((stroke) => !wrong.has(stroke)), BEAM, 1);
+    light.add(bad, TORN, 1, WIDTHS, true);
+    light.show();
+    if (bad.length > 0) light.ring(bad[0], '#ffffff');
+    const last = sofar.at(-1);
+    if (count < strokes.length && last !== undefined) light.spot(last.slice(2), GROWING);
   }
 
   /* A torn picture: the strokes of the frame that was being drawn, in red and dashed all others,

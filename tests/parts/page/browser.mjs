@@ -19,14 +19,17 @@ import { isDrawn } from './pixels.mjs';
 import { builtGame } from '../../../page/src/eproms.mjs';
 import { LESSONS } from '../../../page/src/lessons.mjs';
 import { strokesOfLines } from '../../../page/src/tears.mjs';
+import { linesOfListing } from '../../../page/src/twin.mjs';
 import { grouped } from '../../../page/src/words.mjs';
-import { packedGames } from '../../../page/games.mjs';
+import { packedCave, packedGames } from '../../../page/games.mjs';
 
 const [chromium, program, work] = process.argv.slice(2, 5),
   [seeds, events] = process.argv.slice(5, 7).map(Number), chosen = process.argv.slice(7);
 const top = new URL('../../..', import.meta.url).pathname;
 // The page, and its board, which begins with the tour.
 const file = `${top}page/dvg.html`, front = `file://${file}`, address = `${front}#opening`;
+// A game alone.
+const rocks = `${front}#game=Rocks`;
 let passed = 0, failed = 0;
 
 function fits(wanted, found) {
@@ -1306,8 +1309,13 @@ async function testEdges() {
 
 // What is looked at by WCAG: states of the page, and how one comes to them.
 const STATES = {
-  'a game': async () => {
+  'a game twice': async () => {
     await tab.open(front);
+    await tab.until(STOPPED);
+    await tab.click('why');
+  },
+  'a game': async () => {
+    await tab.open(rocks);
     await tab.until('/^Whole/.test(document.getElementById("run-moments").textContent)');
   },
   'a torn game': async () => {
@@ -1352,7 +1360,7 @@ async function testAccess() {
     expect(`${state}: what has no name`, '', (await nameless()).join());
   }
   if (axe === null) console.log('skipped: axe-core: this Chromium has none');
-  else console.log(`browser: axe-core ${await versionOfAxe(tab)}, finds nothing in 14 states`);
+  else console.log(`browser: axe-core ${await versionOfAxe(tab)}, finds nothing in 16 states`);
   await testPlantedAccess(axe);
   await tab.media({});
 }
@@ -1366,10 +1374,10 @@ async function testPlantedAccess(axe) {
     speed.parentElement.replaceWith(speed);
     0;
   }`);
-  expect('a text that is hardly seen is found', /^1\.[0-9]{2} H1: Gerbilargent$/,
+  expect('a text that is hardly seen is found', /^1\.[0-9]{2} A: Gerbilargent$/,
     await tab.value(lowContrasts(false)));
   expect('and a slider without a name', 'slider', (await nameless()).join());
-  if (axe !== null) expect('so says axe-core', 'color-contrast: h1 | label: #speed',
+  if (axe !== null) expect('so says axe-core', 'color-contrast: h1 > a[href="#"] | label: #speed',
     await brokenRules(tab, axe));
 }
 
@@ -1377,7 +1385,7 @@ async function testPlantedAccess(axe) {
 async function testStops() {
   for (const [width, height] of [[1280, 900], [400, 800]]) {
     await tab.size(width, height, width === 400);
-    for (const state of ['a game', 'a torn game', 'the opening', 'a tear']) {
+    for (const state of ['a game twice', 'a game', 'a torn game', 'the opening', 'a tear']) {
       await STATES[state]();
       await tab.value(BEGIN_STOPS);
       const count = await tab.value('stops.length'), numbers = [];
@@ -1449,8 +1457,8 @@ async function stopsOfTab(count) {
 
 async function testKeys() {
   await tab.open(address);
-  const [first, ...more] = await stopsOfTab(5);
-  expect('Run is the first stop of Tab', 'run', first);
+  const [name, first, ...more] = await stopsOfTab(6);
+  expect('Run is the first stop of Tab after the name', 'Gerbilargent run', `${name} ${first}`);
   expect('Skip the tour comes soon after that', true, more.includes('tour-end'));
   await openPage();
   const seen = await stopsOfTab(60);
@@ -1735,7 +1743,7 @@ async function testReadAloud() {
 
 // Opens a game that is built in, by its place among them.
 async function openGame(number) {
-  await tab.open(front);
+  await tab.open(rocks);
   await tab.click(`#games button:nth-child(${number})`);
   await tab.until(STANDS);
 }
@@ -1761,17 +1769,137 @@ const LIT = `(() => {
   return { width, found, red };
 })()`;
 
-// The first look is a game: its pictures are whole, it is accepted, and keeps its pace.
+// The first look is a game on two boards: without a click the wire of the right one is cut, and
+// both stop at a picture of which a good part is of another one. Its run is shown stroke by stroke.
+const STOPPED = 'document.getElementById("twice").classList.contains("stopped")';
+const bothVerdicts = () => textsOf('#twice .verdict');
+
+async function testTwice() {
+  for (const [width, height] of [[400, 800], [844, 390], [1280, 800], [1920, 1080]]) {
+    await tab.size(width, height, width < 900);
+    await tab.open(front);
+    expect(`${width}: what it is about, over everything`, 'Cut one wire, and the picture tears.',
+      await wordsOf('#twice h2'));
+    await tab.until('/^Whole: each of [0-9]{2,} pictures/.test(document.querySelector('
+      + '"#side-cut .verdict").textContent)');
+    const began = Date.now();
+    await tab.until(STOPPED);
+    expect(`${width}: it tears within ten seconds`, true, Date.now() - began < 10000);
+    const [whole, cut] = await bothVerdicts();
+    expect(`${width}: the left side is whole`, /^Whole: each of [1-9][0-9]* pictures\.$/, whole);
+    expect(`${width}: the right one isn't`, /^Torn: [1-9][0-9]* of [1-9][0-9]* pictures?\.$/, cut);
+    const [, red, all] = /, and ([0-9]+) of ([0-9]+) lines, red/.exec(
+      await tab.text('what-happened')) ?? [];
+    expect(`${width}: a good part is of another picture`, true, red / all >= 0.25);
+    expect(`${width}: no watchdog resets a board`, 'true,true',
+      (await tab.value('[...document.querySelectorAll("#twice .reset")].map((one) => one.hidden)'))
+        .join());
+    for (const id of ['tube-whole', 'tube-cut', 'cut-wire', 'what-happened', 'stroke', 'fly',
+      'why']) {
+      expect(`${width}: ${id} is in view`, true, await tab.value(`(() => {
+        const box = document.getElementById('${id}').getBoundingClientRect();
+        const { top, bottom, left, right } = box;
+        const isCut = '${id}'.startsWith('tube');
+        return top >= (isCut ? -1e4 : 0) && left >= 0 && right <= innerWidth + 1
+          && (isCut || bottom <= innerHeight + 1);
+      })()`));
+    }
+    expect(`${width}: nothing is wider than the window`, true,
+      await tab.value('document.documentElement.scrollWidth <= innerWidth'));
+  }
+  await testStrokes();
+  await testFlight();
+}
+
+// The program and the vector ROM of the game of the first view, as files.
+function filesOfCave() {
+  const { bytes, vectors, shapes } = Object.fromEntries(Object.entries(packedCave())
+    .map(([name, text]) => [name, new Uint8Array(Buffer.from(text, 'base64'))]));
+  const driver = linesOfListing(readFileSync(`${top}page/driver.listing`, 'utf8'))
+    .flatMap((line) => line.bytes);
+  const game = builtGame({ bytes, vectors, shapes }, Uint8Array.from(driver));
+  return [['game.program', game.program], ['rom', game.shapes]].map(([name, data]) => {
+    writeFileSync(`${work}/${name}`, data);
+    return `${work}/${name}`;
+  });
+}
+
+const litNow = (id) => tab.value(`(() => {
+  const canvas = document.getElementById('${id}');
+  const { data } = canvas.getContext('2d').getImageData(0, 0, canvas.width, canvas.height);
+  let count = 0;
+  for (let k = 0; k < data.length; k += 4) if (data[k] + data[k + 1] + data[k + 2] > 300) count++;
+  return count;
+})()`);
+
+// The slider moves both beams and both rows: by the keys, too.
+async function testStrokes() {
+  const lit = [];
+  await tab.value('document.getElementById("stroke").focus()');
+  await tab.key('Home');
+  expect('nothing is drawn at its beginning',
+    /^0\.0 ms: left 0 of [0-9]+ lines, right 0 of [0-9]+$/, await tab.text('stroke-text'));
+  for (const id of ['tube-whole', 'tube-cut']) lit.push(await litNow(id));
+  await tab.key('End');
+  expect('all is at its end', /left ([0-9]+) of \1 lines, right ([0-9]+) of \2$/,
+    await tab.text('stroke-text'));
+  for (const id of ['tube-whole', 'tube-cut']) lit.push(await litNow(id));
+  expect('both beams have moved', true, lit[2] > 3 * lit[0] + 100 && lit[3] > 2 * lit[1] + 100);
+  await tab.key('ArrowLeft');
+  const before = await tab.text('stroke-text');
+  await tab.key('ArrowLeft');
+  expect('a key goes back by a stroke', true, before !== await tab.text('stroke-text'));
+  await tab.click('why');
+  expect('why, with the byte',
+    /wrote there, and [0-9.]+ ms later the beam's chip read it\. It wrote/,
+    await tab.text('why-byte'));
+}
+
+// One's own keys fly it on both boards, and it stops again where it is asked to; a wire that was
+// mended is whole; and the run that tore can be looked at as a log.
+async function testFlight() {
+  await tab.click('fly');
+  expect('it goes on', false, await tab.value(STOPPED));
+  expect('the keys are the game\'s', 'tube-whole', await tab.value('document.activeElement.id'));
+  await tab.hold(' ', 32, true);
+  await tab.hold(' ', 32, false);
+  expect('and Space stops nothing', false, await tab.value(STOPPED));
+  await tab.click('fly');
+  await expectSoon('it stops at a tear', true, () => tab.value(STOPPED));
+  await tab.click('cut-wire');
+  await expectSoon('mended, it is whole', /^Whole: each of [1-9][0-9]* pictures?\.$/,
+    async () => (await bothVerdicts())[1]);
+  await tab.click('cut-wire');
+  await expectSoon('cut, it stops at a tear', true, () => tab.value(STOPPED));
+  if (await tab.value('document.getElementById("whys").hidden')) await tab.click('why');
+  await tab.click('these-bytes');
+  await expectSoon('its run is a log', /^The log of a run of Cave/, () => tab.text('file-title'));
+  expect('of one torn picture', /^Torn: 1 of 1 picture\./, await tab.text('moments'));
+  await tab.media({ 'reduced-motion': 'reduce' });
+  await tab.open(front);
+  expect('with less motion it is a still', true, await tab.value(STOPPED));
+  await tab.click('first-play');
+  await expectSoon('until somebody plays it', false, () => tab.value(STOPPED));
+  await tab.media({});
+  await tab.open(front);
+  await tab.drop('side-cut', filesOfCave());
+  await expectSoon('a game that is dropped runs on both', /^Both boards: game\.program/,
+    () => tab.text('asked-text'));
+  await expectSoon('and tears', true, () => tab.value(STOPPED));
+}
+
+// A game alone: its pictures are whole, it is accepted, and keeps its pace.
 async function testGame() {
   await tab.size(1280, 900);
-  await tab.open(front);
-  expect('why, over everything', /^One chip draws this picture .* nobody ever sees half of each\?/,
+  await tab.open(rocks);
+  expect('what this is, over everything', /^A frame driver for the vector hardware/,
     await wordsOf('.why-play'));
   await expectSoon('its pictures are whole', /^Whole: each of [0-9]{2,} pictures\.$/,
     () => tab.text('run-moments'));
   expect('each byte comes in time', 'In time: each byte.', await tab.text('run-halves'));
   expect('each run is finished', 'Finished: each run.', await tab.text('run-left'));
-  expect('it is accepted', 'Accepted: no run of these bytes tears a picture.',
+  expect('it is accepted',
+    'Accepted: no run of these bytes tears a picture, while the HALT wire is whole.',
     await tab.text('every'));
   await expectSoon('its pace', /^6[01]\.[0-9] pictures a second, [3-9]/,
     () => tab.text('run-counts'));
@@ -1818,7 +1946,7 @@ async function testTube() {
 // Who clicks a button of the game plays on by its keys; and after a log the link to the game leads
 // back to it.
 async function testWayBack() {
-  await tab.open(`${front}#`);
+  await tab.open(rocks);
   await tab.until('/, [1-9]\\.[0-9] s/.test(document.getElementById("run-counts").textContent)');
   await tab.click('game-wire');
   expect('the keys are the game\'s', 'tube', await tab.value('document.activeElement.id'));
@@ -1836,7 +1964,7 @@ async function testWayBack() {
 
 // So does who chooses from a list or ticks a box by a pointer; who does it by a key stays there.
 async function testChoices() {
-  await tab.open(`${front}#`);
+  await tab.open(rocks);
   const focus = () => tab.value('document.activeElement.id');
   const { x, y } = await tab.middle('beam');
   await tab.clickAt(x, y);
@@ -1859,7 +1987,7 @@ async function testChoices() {
 
 // Keys and touches come to the game: in Rocks the ship turns, and a shot is seen.
 async function testHands() {
-  await tab.open(front);
+  await tab.open(rocks);
   await tab.until('/, [3-9]\\.[0-9] s/.test(document.getElementById("run-counts").textContent)');
   const asks = (name) => tab.value(`[...document.querySelectorAll('.pads button')]
     .find((one) => one.dataset.input === '${name}').classList.contains('down')`);
@@ -1952,7 +2080,7 @@ async function testGameLink() {
   await tab.choose('beam', '4');
   expect('its address', '#game=The+test+ROM&wire=cut&beam=4', await tab.value('location.hash'));
   const link = await tab.value('location.href');
-  await tab.open(front);
+  await tab.open(rocks);
   await tab.open(link);
   expect('it is cut', 'true', await tab.value(
     'document.getElementById("game-wire").getAttribute("aria-pressed")'));
@@ -1964,7 +2092,7 @@ async function testGameLink() {
   await expectSoon('a link is told', /^The link, [0-9]+ characters, stands in the address/,
     () => tab.text('game-said'));
   const long = await tab.value('location.href');
-  await tab.open(front);
+  await tab.open(rocks);
   await tab.open(long);
   expect('the game that was dropped', 'game.program, rom, out of a link.',
     await tab.text('game-said'));
@@ -2243,7 +2371,7 @@ async function testWrongDrops() {
   const pictures = async () => Number(/[0-9]+/.exec(await tab.text('run-moments')));
   for (const [width, height] of [[400, 800], [1280, 900]]) {
     await tab.size(width, height, width === 400);
-    await tab.open(`${front}#`);
+    await tab.open(rocks);
     for (const [files, text] of wrongFiles()) {
       await tab.drop('tube', files);
       await expectSoon(`${width}: it is told`, text, () => tab.text('game-said'));
@@ -2276,7 +2404,7 @@ async function testGameWidths() {
   for (const [width, height, ...more] of [[400, 800], [800, 900], [1280, 900, '#in-run', '#every',
     '#game-wire'], [1920, 1000, '#in-run', '#in-every-run', '#what-if']]) {
     await tab.size(width, height, width < 640);
-    await tab.open(front);
+    await tab.open(rocks);
     await expectSoon(`${width} by ${height}: in view`, '',
       () => outOfView(['#tube', '.pads', ...more]));
     expect(`${width}: it doesn't scroll sideways`, true,
@@ -2329,7 +2457,7 @@ function expectFlat(what, [, ...sizes], began) {
 // after the first fifth of them.
 async function testMinutes() {
   await inTabOf(FAST_TIME, async () => {
-    await tab.open(front);
+    await tab.open(rocks);
     const began = Date.now(), sizes = [];
     for (let k = 0; k < 10; k++) {
       for (let part = 0; part < minutes; part++) {
@@ -2439,7 +2567,7 @@ async function workOfFrames(count) {
 // second: a busy machine gives it less of a processor than it counts.
 async function testSlowed() {
   await inTabOf(FRAME_TIME, async () => {
-    await tab.open(front);
+    await tab.open(rocks);
     await tab.send('Emulation.setCPUThrottlingRate', { rate: 4 });
     await tab.until('/each of [0-9]{3}/.test(document.getElementById("run-moments").textContent)');
     const seconds = [], isBusy = () => loadavg()[0] > cpus().length;
@@ -2467,7 +2595,7 @@ const tests = {
   testHttp, testInView, testGrey, testCode, testTour, testMend,
     testWidths, testSmall, testEmbed, testColors, testMotion, testKeys, testRows, testOnAndOn,
     testEdges,
-  testGame, testTube, testHands, testWayBack, testChoices, testWhatIf, testTries,
+  testTwice, testGame, testTube, testHands, testWayBack, testChoices, testWhatIf, testTries,
     testStrip, testSound, testGameDrops, testWrongDrops, testGameLink, testGamePage, testGameWidths,
   testLive, testPlain, testLessonFrames, testEditorsStill, testReadAloud, testAccess, testStops,
   testMinutes, testBoards, testSpeed, testSlowed,

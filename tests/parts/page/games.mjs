@@ -28,11 +28,13 @@ import { OPCODES, Processor } from '../../../page/src/processor.mjs';
 import { Program, labelsOf } from '../../../page/src/programs.mjs';
 import { Screen } from '../../../page/src/screen.mjs';
 import { ROW, SIGN, areaOf } from '../../../page/src/signs.mjs';
+import { picturesVerdict, resetsVerdict } from '../../../page/src/judged.mjs';
 import { Latches, SOUND, Speaker } from '../../../page/src/sounds.mjs';
 import { Strip } from '../../../page/src/strip.mjs';
+import { TapedArcade, beamOf, comesToBe } from '../../../page/src/taped.mjs';
 import { tearOfGame } from '../../../page/src/tears.mjs';
 import { linesOfListing } from '../../../page/src/twin.mjs';
-import { packedGames } from '../../../page/games.mjs';
+import { packedCave, packedGames } from '../../../page/games.mjs';
 import { brightOf, isDrawn } from './pixels.mjs';
 import { Audio, Image, partsOf, runPage, scriptOf } from './stage.mjs';
 
@@ -76,6 +78,13 @@ function driverOfPage() {
 const GAMES = new Map(packedGames().map(({ folder, bytes, vectors, shapes }) => [folder,
   builtGame({ bytes: bytesOf(bytes), vectors: bytesOf(vectors), shapes: bytesOf(shapes) },
     driverOfPage())]));
+
+// The game of the first view.
+function caveOfPage() {
+  const { bytes, vectors, shapes, labels } = packedCave();
+  return { ...builtGame({ bytes: bytesOf(bytes), vectors: bytesOf(vectors),
+    shapes: bytesOf(shapes) }, driverOfPage()), labels: labelsOf(labels) };
+}
 
 // --- The 6502 ---
 
@@ -1390,6 +1399,118 @@ function zipsOf(files) {
   });
 }
 
+// The game of the first view has the bytes that `make` makes of examples/cave, and board/prove
+// accepts these.
+function testCave() {
+  if (!hasTools) return console.log('skipped: the bytes of the cave: ca65 is not here');
+  const folder = `${work}/cave/examples/cave`;
+  for (const name of ['board', 'examples/cave', 'crates/dvg_calls_6502/specs/Code.antt']) {
+    cpSync(`${top}${name}`, `${work}/cave/${name}`, { recursive: true });
+  }
+  const made = spawnSync('make', ['-s', '-C', folder, 'proof', `DVG=${program}`],
+    { env: { ...process.env, DVG: program } });
+  expect('no run of the cave tears a picture', true,
+    made.stdout.toString().includes('no run of these bytes tears a picture'));
+  const cave = caveOfPage();
+  for (const [name, bytes] of [['game.program', cave.program], ['rom', cave.shapes]]) {
+    expect(`the cave's ${name}`, readFileSync(`${folder}/build/${name}`).toString('base64'),
+      Buffer.from(bytes).toString('base64'));
+  }
+  expect('so says the page', VERDICT.GOOD,
+    judgeProgram(new Program(cave.program, cave.labels), cave.shapes, driverOfPage()).verdict);
+  return null;
+}
+
+// A board of the cave, with what is asked of it, after so many seconds.
+function caveAfter(seconds, changes) {
+  const { program: bytes, shapes } = caveOfPage(), arcade = new TapedArcade(engine, bytes, shapes);
+  Object.assign(arcade, { ignored: true }, changes);
+  arcade.run(seconds * HERTZ);
+  return arcade;
+}
+
+// Each run that is taped has a time for each of its strokes, in their order, between its beginning
+// and its end; and its log is judged as its picture was.
+function testTaped() {
+  for (const [folder, game] of [...GAMES, ['cave', caveOfPage()]]) {
+    for (const wireCut of [false, true]) {
+      const arcade = new TapedArcade(engine, game.program, game.shapes), runs = new Map();
+      Object.assign(arcade, { wireCut, ignored: true });
+      while (arcade.time < 2) {
+        pressPlayed(arcade);
+        arcade.run(4096);
+        for (const run of arcade.taped) if (run.done !== null) runs.set(run.began, run);
+      }
+      const what = `${folder}, ${wireCut ? 'cut' : 'whole'}`;
+      const isOdd = ({ began, done, ends, strokes }) => ends.length !== strokes.length
+        || ends.some((end, k) => end <= (ends[k - 1] ?? began) || end > done);
+      expect(`${what}: some runs`, true, runs.size > 30);
+      expect(`${what}: runs whose strokes have no time`, 0,
+        [...runs.values()].filter(isOdd).length);
+      for (const run of [...runs.values()].slice(-3)) {
+        const { stdout } = spawnSync(program, ['torn', '--moments'], { input: run.log });
+        expect(`${what}: its log`, run.isTorn, /^torn/.test(stdout.toString()));
+      }
+      const { ends, began, done } = [...runs.values()].at(-1);
+      const run = [...runs.values()].at(-1);
+      expect(`${what}: none is drawn at first, all at the end`, [0, ends.length],
+        [run.countAt(began), run.countAt(done)]);
+      arcade.free();
+    }
+  }
+}
+
+function pressPlayed(arcade) {
+  for (const [name, from, to] of [['coin', 0.4, 0.6], ['start1', 1, 1.3]]) {
+    arcade.press(name, arcade.time >= from && arcade.time < to);
+  }
+}
+
+// In the first view each picture of the board whose wire is cut is torn, much of it, soon; and the
+// whole one, of the same time, is whole, at half of the pace, and never reset.
+function testCaveTears() {
+  const whole = caveAfter(6, {}), cut = caveAfter(3, {});
+  expect('whole', [0, 0, 0], ['torn', 'early', 'resets'].map((name) => whole.counts[name]));
+  expect('its pace', true, whole.counts.pictures > 25 * 6);
+  cut.wireCut = true;
+  cut.countAnew();
+  cut.run(3 * HERTZ);
+  const { pictures, torn, resets } = cut.counts, { past } = cut;
+  expect('cut, each one is torn', [true, pictures, 0], [pictures > 20 * 3, torn, resets]);
+  const { wrong } = tearOfGame(engine, past.torn, { bytes: caveOfPage().shapes });
+  expect('at least a third of it', true, wrong.length / past.torn.picture.strokes.length > 1 / 3);
+  expect('the verdicts', ['Torn', 'Whole', null],
+    [picturesVerdict(cut.counts).word, picturesVerdict(whole.counts).word,
+      resetsVerdict(cut.counts)]);
+  expect('of a board that was reset', 'Reset', resetsVerdict({ resets: 2 }).word);
+  expect('nothing is whole of which word zero alone was fetched', '',
+    picturesVerdict({ pictures: 9, judged: 0, torn: 0 }).word);
+  // A board whose beam is so slow that the watchdog comes.
+  const slow = caveAfter(2, { slow: 8 });
+  expect('and the watchdog does come', true, slow.counts.resets > 5);
+  for (const one of [whole, cut, slow]) one.free();
+}
+
+// The first beam with which a game tears, while the whole side isn't reset.
+function testBeams() {
+  const beams = [['asteroid_game', 8], ['bat', null], ['test_rom', 1]].map(([folder, wanted]) => {
+    const { program: bytes, shapes } = GAMES.get(folder);
+    const found = beamOf((slow, wireCut, isSo) => {
+      const arcade = new TapedArcade(engine, bytes, shapes);
+      Object.assign(arcade, { slow, wireCut, ignored: true });
+      const came = comesToBe(arcade, pressPlayed, isSo, HERTZ);
+      arcade.free();
+      return came;
+    });
+    expect(`the beam of ${folder}`, wanted, found);
+    return found;
+  });
+  const asked = [];
+  beamOf((slow, wireCut) => { asked.push([slow, wireCut]); return true; });
+  expect('none that the watchdog resets', [1, 2, 4, 8], [...new Set(asked.map(([slow]) => slow))]);
+  return beams;
+}
+
 const TESTS = [
   testSteps, testBreakSteps, testDecimal, testBreak, testBreakGame, testBuilt, testChecker,
   testDeluxe, testDeluxeBoard,
@@ -1397,6 +1518,7 @@ const TESTS = [
   testMendedBoard, testRate, testBoard, testNmi,
   testGamepads, testSoundLatches, testSounding, testSpeaker, testSoundButton, testGamePage,
   testMakePage, testGameLinks, testNothingYet, testAnswers, testGameFiles, testOutlines,
+  testCave, testTaped, testCaveTears, testBeams,
 ];
 for (const test of TESTS) if (named.length === 0 || named.includes(test.name)) await test();
 end();
