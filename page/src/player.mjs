@@ -3,6 +3,7 @@
 import { Arcade, HERTZ } from './arcade.mjs';
 import { heldBy, padsNow } from './gamepads.mjs';
 import { byId, setText } from './parts.mjs';
+import { Scope } from './scope.mjs';
 import { Screen } from './screen.mjs';
 import { Speaker } from './sounds.mjs';
 
@@ -20,6 +21,7 @@ export class Player {
   constructor(engine) {
     Object.assign(this, { engine, arcade: null, isShown: false, isPaused: false, script: [] });
     Object.assign(this, { held: new Set(), speaker: null, isLoud: false });
+    Object.assign(this, { scope: null, isScoped: false });
     this.screen = new Screen(byId('tube'));
     this.frame = this.frame.bind(this);
   }
@@ -91,10 +93,22 @@ export class Player {
     this.hush();
   }
 
+  /* The picture goes to an oscilloscope in their place, also while the game rests. */
+  setScoped(isScoped) {
+    this.isScoped = isScoped;
+    byId('scope').setAttribute('aria-pressed', String(isScoped));
+    byId('scope-box').hidden = !isScoped;
+    if (isScoped) this.scope ??= new Scope();
+    this.draw();
+    this.hush();
+  }
+
   /* They are heard only while the game runs, and is in view. */
   hush() {
-    const { arcade } = this, isSeen = this.isShown && !this.isPaused && !document.hidden;
-    this.speaker?.follow(arcade.latches, this.isLoud && isSeen && arcade.fault === '');
+    const { arcade, isScoped } = this, isInView = this.isShown && !document.hidden;
+    const isHeard = this.isLoud && !isScoped && isInView && !this.isPaused;
+    this.speaker?.follow(arcade.latches, isHeard && arcade.fault === '');
+    this.scope?.follow(isScoped && isInView);
   }
 
   /* Hands on what was written since the frame before. */
@@ -128,6 +142,7 @@ export class Player {
     this.screen.draw(seen, null, false, seen?.torn ? this.tearOf(seen) : null);
     const count = String(seen?.strokes.length ?? 0), { dataset } = byId('tube');
     if (dataset.strokes !== count) dataset.strokes = count;
+    if (this.isScoped) this.scope.show(seen?.strokes ?? null);
   }
 
   /* --- Hands --- */
@@ -181,6 +196,7 @@ export function listenToPlayer(player) {
   on('restart', () => player.restart());
   on('pause', () => player.setPaused(!player.isPaused));
   on('sound', () => player.setLoud(!player.isLoud));
+  on('scope', () => player.setScoped(!player.isScoped));
   document.addEventListener('visibilitychange', () => player.hush());
   addEventListener('blur', () => player.releaseAll());
 }
