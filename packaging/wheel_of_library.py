@@ -8,6 +8,7 @@ each Python. The module is a package only in there, where py.typed says that it 
 from __future__ import annotations
 
 import base64
+import functools
 import hashlib
 import io
 import subprocess
@@ -31,6 +32,7 @@ def run(*command: str) -> str:
     return ran.stdout.decode().strip()
 
 
+@functools.lru_cache(maxsize=None)
 def title() -> str:
     """The name and the version, as names of files begin."""
     return f"gerbilargent-{run(str(TOP / 'tools/version'))}"
