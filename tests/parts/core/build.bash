@@ -1,6 +1,7 @@
 # How tests/core and tests/core_top build a bench by Verilator, and of what. What no bench changes,
 # Verilator's own objects and the headers, is compiled once for a version of both compilers, and
-# kept in build/verilated of this repository.
+# kept in build/verilated of this repository; and so is each bench that was built, by the digest of
+# all that it is made of.
 bench_flags="-O1 -I$top/include"
 
 # Where that is kept.
@@ -28,18 +29,45 @@ is_alike() {
         cmp -s "$1/$3___024root.h" "$2/$3___024root.h"
 }
 
+# Prints the digest of what a bench is made of: what build_simulation is given behind the folder,
+# and the files that each bench may include.
+digest_of_bench() {
+    local word
+    {
+        echo "$common ${prefix-}"
+        for word in "$@"; do
+            if [ -f "$word" ]; then sha256sum <"$word"; else printf '%s\n' "$word"; fi
+        done
+        cat "$tests/parts/core/$1.cpp" "$tests"/parts/core/{*.h,build.*} "$tests"/parts/board/*.h \
+            "$top"/include/*.h "$top/build/libdvg.a"
+    } | sha256sum | cut -c 1-32
+}
+
+# Keeps a bench under its digest, and no more than some hundreds of them.
+keep_bench() {
+    local folder=${2%/*}
+    mkdir -p "$folder" && cp "$1" "$2.$BASHPID" && mv "$2.$BASHPID" "$2" || return 0
+    find "$folder" -type f -printf '%T@ %p\n' | sort -rn | tail -n +400 | cut -d ' ' -f 2- |
+        tr '\n' '\0' | xargs -0r rm -f
+}
+
 # Builds a bench as FOLDER/bench: the folder, its name, the module that it plays, and what else
 # Verilator is given. `prefix` is what Verilator calls the circuit, if it isn't V and the module's
 # name; `like` is a folder in which the same bench was built of other Verilog, if there is one.
 build_simulation() {
-    local made=${prefix:-V$3}
+    local made=${prefix:-V$3} kept
     [ -n "${common-}" ] || common=$(common_folder)
+    kept=$top/build/verilated/benches/$(digest_of_bench "${@:2}")
+    if [ -x "$kept" ]; then
+        mkdir -p "$1" && cp "$kept" "$1/bench" && touch "$kept"
+        return
+    fi
     verilator --cc --exe -O3 -Wno-fatal --Mdir "$1" -o bench --top-module "$3" --prefix "$made" \
         "${@:4}" "$tests/parts/core/$2.cpp" "$top/build/libdvg.a" \
         -CFLAGS "$bench_flags -include $common/common.h" || return
     make_common "$1" "$made" && cp "$common"/*.o "$1" || return
     ! is_alike "$1" "${like-}" "$made" || cp "$like/$2.o" "$1"
-    make -s -C "$1" -f "$made.mk" OPT_FAST= OPT_SLOW= OPT_GLOBAL=
+    make -s -C "$1" -f "$made.mk" OPT_FAST= OPT_SLOW= OPT_GLOBAL= && keep_bench "$1/bench" "$kept"
 }
 
 # The module that a bench plays: its name.
