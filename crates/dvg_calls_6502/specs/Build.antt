@@ -21,6 +21,7 @@ use Rattle.dvg_calls_6502.specs.Board.{IsLoaded, seen, is_own, is_ram, phase_in,
 use Rattle.dvg_calls_6502.specs.Board.{goal_in}
 use Rattle.dvg_calls_6502.specs.Holds.{Holds, publish_byte}
 use Rattle.dvg_calls_6502.specs.Routines.{Enters, Part, Vector, begins, put_by}
+pub use Rattle.dvg_game_words.specs.Tables.{calls_one}
 
 -- a frame is being built, of which these bytes are to come; the HALT's are the last ones
 pub record IsBuilding (mem : ℕ → ℕ) (half : Half) (flipped : Bool) (rest : List ℕ) : Type 0 where
@@ -190,10 +191,6 @@ pub record IdlesAll (cpu : Cpu) : Type 0 where
 -- so dvg_ticks does nothing there
 abbrev pub IdleTicksAll : Type 0
 IdleTicksAll = (cpu : Cpu) → Enters cpu dvg_ticks → (phase_in cpu.mem ≡ 2) ⊎ (phase_in cpu.mem ≡ 7) → IdlesAll cpu
-
--- a frame that calls one shape of the ROM
-abbrev pub calls_one : ℕ → List OpKind
-calls_one a = Draw (Labs 0 0 0) ∷ CallRom a ∷ Stop ∷ []
 
 -- an operation that a program puts: a vector or a LABS, or a call of a shape whose frame the check accepts
 abbrev pub IsPut : List ℕ → OpKind → Type 0

@@ -1,7 +1,7 @@
-pub mod Processor
+pub use Rattle.dvg_game_words.specs.Processor
 pub mod Single
-pub mod Code
-pub mod Board
+pub use Rattle.dvg_game_words.specs.Code
+pub use Rattle.dvg_game_words.specs.Board
 pub mod Amid
 pub mod Interrupts
 pub mod Feed

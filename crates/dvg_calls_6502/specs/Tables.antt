@@ -12,6 +12,7 @@ use Rattle.dvg_frame.specs.Ops.{IsOp, IsDraft}
 use Rattle.dvg_frame.specs.Faults.{Accepts}
 use Rattle.dvg_calls_6502.specs.Board.{is_hardware}
 use Rattle.dvg_calls_6502.specs.Feed.{fed}
+pub use Rattle.dvg_game_words.specs.Tables.{table_of, NamesRom}
 
 -- a table can express this operation: what it names of the ROM is at word 400 or above, and what it
 -- names of the frame is in half 0
@@ -26,10 +27,6 @@ IsExpressible F op = Unit {0}
 abbrev pub AreExpressible : (F ops : List OpKind) → Type 0
 AreExpressible F [] = Unit {0}
 AreExpressible F (op ∷ ops) = IsOp op × IsExpressible F op × AreExpressible F ops
-
--- a draft's table: the bytes of its words in half 0
-abbrev pub table_of : List OpKind → List ℕ
-table_of F = bytes (laid H0 F)
 
 -- a draft's table at an address: the number of its words, and then its bytes; none of it is hardware, the zero page
 -- or the stack
@@ -53,12 +50,6 @@ TableLaw = (half : Half) (F : List OpKind) → AreExpressible F F
 abbrev pub TableMisses : Type 0
 TableMisses =
     let F = Draw (Labs 0 0 0) ∷ Halt ∷ CallRom 5 ∷ [] in fed (high H1) false false (table_of F) ≢ bytes (laid H1 F)
-
--- what it names of the ROM stands from 400 on
-abbrev pub NamesRom : OpKind → Type 0
-NamesRom (CallRom a) = 0x400 ≤ a
-NamesRom (JumpRom a) = 0x400 ≤ a
-NamesRom op = Unit {0}
 
 -- a table can express each checked draft whose operations name the ROM from 400 on
 abbrev pub CheckedExpressible : Type 0

@@ -2,11 +2,10 @@
 use Rattle.std.proofs.Common.{◌≡◌, ℕ, ◌+◌, ◌&&◌, ◌⊎◌, inl, inr, Bool, true, false, refl, sym, ◌∙◌, ap, if◌then◌else◌, List}
 use Rattle.std.proofs.lemmas.Bool.{eqb-false}
 use Rattle.std.specs.Prelude.{Option}
-use Rattle.dvg_calls_6502.specs.Code.{code}
-use Rattle.dvg_game_rules.specs.Checker.{Notes, accepts, accepts_game, all_under, boot_most, boots, fine_at, first, interrupts, noted, places}
-use Rattle.dvg_game_rules.specs.Checker.{stand_at, starts}
-use Rattle.dvg_game_rules.specs.Machine.{nmi_vector, reset_vector, word_at}
-use Rattle.dvg_game_rules.proofs.Facts.{under}
+use Rattle.dvg_game_words.specs.Code.{code}
+use Rattle.dvg_game_words.specs.Checker.{Notes, accepts, accepts_game, all_under, boot_most, boots, fine_at, first, interrupts, noted, places}
+use Rattle.dvg_game_words.specs.Checker.{stand_at, starts}
+use Rattle.dvg_game_words.specs.Machine.{nmi_vector, reset_vector, word_at}
 use Rattle.dvg_game_check.specs.declared.program.TheConstants.{DRIVER}
 use Rattle.dvg_game_check.specs.Program.{has_driver, way, BootsTo}
 use Rattle.dvg_game_check.specs.Rules.{HasBytes}

@@ -2,10 +2,13 @@
 use Rattle.std.proofs.Common.{◌≡◌, ℕ, zero, suc, ◌+◌, ◌-◌, ◌<◌, ◌≤◌, Bool, true, false, List, [], ◌∷◌, length, get_or, drop, refl, sym, ◌∙◌, ap, arith}
 use Rattle.std.proofs.Math.ListN.{drop_of_length-le}
 use Rattle.std.proofs.Math.Seq.{drop-cons}
-use Rattle.dvg_game_rules.specs.Kinds.{Kind, Quiet, Reads, Transfer, Stores, Push, PushFlags, Pull, PullFlags, Branch, Jump, Call, Return, Finish, Wild, kind_of}
-use Rattle.dvg_game_rules.specs.Kinds.{ZeroPage, ZeroPageIndexed, Absolute, AbsoluteIndexed}
-use Rattle.dvg_game_rules.specs.Machine.{word_at, reset_vector}
-use Rattle.dvg_game_rules.specs.Checker.{Note, Notes, fine_by, may_boot, stand_at}
+use Rattle.dvg_game_words.specs.Kinds.{Kind, Quiet, Reads, Transfer, Stores, Push, PushFlags, Pull, PullFlags, Branch, Jump, Call, Return, Finish, Wild, kind_of}
+use Rattle.dvg_game_words.specs.Kinds.{ZeroPage, ZeroPageIndexed, Absolute, AbsoluteIndexed}
+use Rattle.dvg_game_words.specs.Machine.{word_at, reset_vector}
+use Rattle.dvg_game_words.specs.Checker.{Note, Notes, fine_by, may_boot, stand_at}
+use Rattle.std.specs.Prelude.{MatchOption, Option, None, Some}
+use Rattle.dvg_game_check.specs.declared.reason.Rule.{Rule}
+use Rattle.dvg_game_check.specs.Why.{asks}
 use Rattle.dvg_game_check.specs.Rules.{fine_with, boots_with}
 
 pub fine_same : (kind : Kind) (notes : Notes) (f : ℕ → ℕ) (at : ℕ) (now : Note)
@@ -68,3 +71,29 @@ pub boots_by_bytes : (kind k : Kind) (f : ℕ → ℕ) (at low word : ℕ) → k
 boots_by_bytes kind k f at low word e l w =
     ap (λ x. boots_with x low word) e ∙ (ap (λ x. boots_with k x word) l
     ∙ (ap (λ x. boots_with k (f (at + 1)) x) w ∙ boots_same k f at))
+
+asks_same : (kind : Kind) (rule : Rule) (notes : Notes) (f : ℕ → ℕ) (at low word reset : ℕ) (now : Note) → low ≡ f (at + 1)
+    → word ≡ word_at f (at + 1) → reset ≡ word_at f reset_vector
+    → asks kind rule notes low word reset at now ≡ asks kind rule notes (f (at + 1)) (word_at f (at + 1)) (word_at f reset_vector) at now
+asks_same kind rule notes f at low word reset now l w r =
+    ap (λ x. asks kind rule notes x word reset at now) l
+    ∙ (ap (λ x. asks kind rule notes (f (at + 1)) x reset at now) w
+    ∙ ap (λ x. asks kind rule notes (f (at + 1)) (word_at f (at + 1)) x at now) r)
+
+pub asks_by_bytes : (kind k : Kind) (rule : Rule) (notes : Notes) (f : ℕ → ℕ) (at low word reset : ℕ) (now : Note) → kind ≡ k
+    → low ≡ f (at + 1) → word ≡ word_at f (at + 1) → reset ≡ word_at f reset_vector
+    → asks kind rule notes low word reset at now ≡ false
+    → asks k rule notes (f (at + 1)) (word_at f (at + 1)) (word_at f reset_vector) at now ≡ false
+asks_by_bytes kind k rule notes f at low word reset now e l w r is =
+    sym (ap (λ x. asks x rule notes low word reset at now) e ∙ asks_same k rule notes f at low word reset now l w r) ∙ is
+
+-- an answer is of each ROM with the bytes
+pub why_by_bytes : (answer : Option Rule) (kind k : Kind) (notes : Notes) (f : ℕ → ℕ) (at low word reset : ℕ) (now : Note)
+    → kind ≡ k → low ≡ f (at + 1) → word ≡ word_at f (at + 1) → reset ≡ word_at f reset_vector
+    → MatchOption answer (fine_with kind notes low word reset at now ≡ true) (λ rule. asks kind rule notes low word reset at now ≡ false)
+    → MatchOption answer (fine_by k notes f at now ≡ true)
+    (λ rule. asks k rule notes (f (at + 1)) (word_at f (at + 1)) (word_at f reset_vector) at now ≡ false)
+why_by_bytes None kind k notes f at low word reset now e l w r is =
+    sym (fine_by_bytes kind k notes f at low word reset now e l w r) ∙ is
+why_by_bytes (Some rule) kind k notes f at low word reset now e l w r is =
+    asks_by_bytes kind k rule notes f at low word reset now e l w r is

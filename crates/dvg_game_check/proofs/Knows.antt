@@ -1,12 +1,15 @@
 -- What is known at a place, one instruction after the other; and what is known of pairs of bytes.
 use Rattle.std.proofs.Common.{◌≡◌, ℕ, zero, suc, ◌+◌, ◌-◌, ◌*◌, ◌<◌, ◌≤◌, ◌&&◌, ◌||◌, Bool, true, false, refl, sym, ◌∙◌, ap, arith, bit_or, eq-eqb, get_or, ◌⊎◌, inl, inr, not}
 use Rattle.std.specs.Prelude.{Option, None, Some, List, [], ◌∷◌, if◌then◌else◌, nat_eq, length}
-use Rattle.dvg_game_rules.specs.Checker.{Note, all_under}
-use Rattle.dvg_game_rules.specs.Kinds.{Kind, Quiet, Reads, Transfer, Stores, Push, PushFlags, Pull, PullFlags, Branch, Jump, Call, Return, Finish, Wild, kind_of}
-use Rattle.dvg_game_rules.specs.Machine.{word_at}
-use Rattle.dvg_game_rules.proofs.Facts.{under}
-use Rattle.dvg_game_content.specs.Brings.{Known, Any, Is, Under, By, Fact, Ways, fact, fact_by, next, nothing, for_each, flows, is_leap, far, brought_by, brings_at}
-use Rattle.dvg_game_check.specs.Brought.{BringsThere, PlaceBrings, both_pass, flows_with, has, has_word, known, next_with, value_of}
+use Rattle.dvg_game_words.specs.Checker.{Note, all_under}
+use Rattle.dvg_game_words.specs.Kinds.{Kind, Quiet, Reads, Transfer, Stores, Push, PushFlags, Pull, PullFlags, Branch, Jump, Call, Return, Finish, Wild, kind_of}
+use Rattle.dvg_game_words.specs.Machine.{word_at}
+use Rattle.dvg_game_words.specs.Brings.{Known, Any, Is, Under, By, Fact, Ways, fact, fact_by, next, nothing, for_each, flows, is_leap, far, brought_by, brings_at}
+use Rattle.dvg_game_check.specs.declared.known.Gap.{Gap}
+use Rattle.dvg_game_check.specs.declared.known.Gap.TheVariants.{Ways as GapWays, Pair, Unknown, Outside, Missing}
+use Rattle.dvg_game_check.specs.Brought.{GapTells, IsGap, PlaceTells, Tells, both_pass, brought_there, flows_there, flows_with, has, has_word}
+use Rattle.dvg_game_check.specs.Brought.{known, known_is, leaps_there, next_with, value_of}
+use Rattle.dvg_game_check.proofs.Loops.{all_under_fails, under}
 use Rattle.dvg_game_check.proofs.Ors.{or_assoc}
 
 pub masked_twice : (g : ℕ → ℕ) (old mask : ℕ) → By (λ y. bit_or (g y) (bit_or old mask)) ≡ By (λ y. bit_or (bit_or (g y) old) mask)
@@ -64,6 +67,41 @@ each_by_pairs (By f) Any most p some all =
 each_by_pairs (By f) (Under n) most p some all =
     absurd (let e : false ≡ true = under most (pair_passes (By f) (Under n) p) all 0 some in cc)
 
+-- and not, where one pair isn't there, or a byte is not known
+pub each_fails : (k l : Known) (most : ℕ) (p : ℕ → ℕ → Bool) (y : ℕ) → y < most → pair_passes k l p y ≡ false
+    → for_each k l most p ≡ false
+each_fails (Is a) (Is x) most p y less fails = fails
+each_fails (Is a) (By g) most p y less fails = all_under_fails (pair_passes (Is a) (By g) p) most y less fails
+each_fails (By f) (Is x) most p y less fails = all_under_fails (pair_passes (By f) (Is x) p) most y less fails
+each_fails (By f) (By g) most p y less fails = all_under_fails (pair_passes (By f) (By g) p) most y less fails
+each_fails Any l most p y less fails = refl
+each_fails (Under n) l most p y less fails = refl
+each_fails (Is a) Any most p y less fails = refl
+each_fails (Is a) (Under n) most p y less fails = refl
+each_fails (By f) Any most p y less fails = refl
+each_fails (By f) (Under n) most p y less fails = refl
+
+pub pair_fails : (k l : Known) (y a x : ℕ) (p : ℕ → ℕ → Bool) → value_of k y ≡ Some a → value_of l y ≡ Some x → p a x ≡ false
+    → pair_passes k l p y ≡ false
+pair_fails k l y a x p is_a is_x fails =
+    ap (λ o. both_pass o (value_of l y) p) is_a ∙ (ap (λ o. both_pass (Some a) o p) is_x ∙ fails)
+
+pub each_unknown_a : (k l : Known) (most : ℕ) (p : ℕ → ℕ → Bool) → known_is k ≡ false → for_each k l most p ≡ false
+each_unknown_a Any l most p fails = refl
+each_unknown_a (Under n) l most p fails = refl
+each_unknown_a (Is a) l most p fails = absurd (let e : true ≡ false = fails in cc)
+each_unknown_a (By f) l most p fails = absurd (let e : true ≡ false = fails in cc)
+
+pub each_unknown_x : (k l : Known) (most : ℕ) (p : ℕ → ℕ → Bool) → known_is l ≡ false → for_each k l most p ≡ false
+each_unknown_x Any l most p fails = refl
+each_unknown_x (Under n) l most p fails = refl
+each_unknown_x (Is a) Any most p fails = refl
+each_unknown_x (Is a) (Under n) most p fails = refl
+each_unknown_x (By f) Any most p fails = refl
+each_unknown_x (By f) (Under n) most p fails = refl
+each_unknown_x k (Is a) most p fails = absurd (let e : true ≡ false = fails in cc)
+each_unknown_x k (By f) most p fails = absurd (let e : true ≡ false = fails in cc)
+
 -- a list has what is at one of its places
 pub has_at : (xs : List ℕ) (i n : ℕ) → i < length xs → get_or xs i 0 ≡ n → has xs n ≡ true
 has_at [] i n h e = absurd (omega arith)
@@ -73,6 +111,14 @@ has_at (x ∷ xs) (suc i) n h e = by (nat_eq x n) (has_at xs i n (omega arith) e
     by : (b : Bool) → has xs n ≡ true → (b || has xs n) ≡ true
     by true h = refl
     by false h = h
+
+-- and no other number
+pub has_none : (xs : List ℕ) (n : ℕ) → ((k : ℕ) → k < length xs → nat_eq (get_or xs k 0) n ≡ false) → has xs n ≡ false
+has_none [] n none = refl
+has_none (x ∷ xs) n none =
+    let one : nat_eq x n ≡ false = none zero (omega arith) in
+    let more : has xs n ≡ false = has_none xs n (λ k less. none (suc k) (omega arith)) in
+    rw (one, more)
 
 flows_same : (kind : Kind) (ways : Ways) (f : ℕ → ℕ) (at : ℕ)
     → flows_with ways at kind (f (at + 1)) (word_at f (at + 1)) ≡ flows ways f at kind
@@ -102,23 +148,34 @@ both_hold a b c h (inl e) = rw (h, e)
 both_hold a true c h (inr e) = rw (h, e)
 both_hold a false c h (inr e) = rw h
 
+pub no_flow : (tables words : List ℕ) (f : ℕ → ℕ) (ways : Ways) (at : ℕ) → flows ways f at (kind_of (f at)) ≡ false
+    → IsGap tables words f ways at GapWays
+unfolding flows_there
+no_flow tables words f ways at h = h
+
 pub brings_alone : (tables words : List ℕ) (f : ℕ → ℕ) (ways : Ways) (at : ℕ) → flows ways f at (kind_of (f at)) ≡ true
-    → is_leap (kind_of (f at)) ≡ false → BringsThere tables words f ways at
-unfolding BringsThere
+    → is_leap (kind_of (f at)) ≡ false → GapTells tables words f ways at None
+unfolding flows_there leaps_there brought_there
 brings_alone tables words f ways at h l =
     both_hold (flows ways f at (kind_of (f at))) (is_leap (kind_of (f at)))
     (brought_by (has tables) (has_word words) (fact ways f far at) (word_at f (at + 1))) h (inl l)
 
-pub brings_so : (tables words : List ℕ) (f : ℕ → ℕ) (ways : Ways) (at : ℕ) → flows ways f at (kind_of (f at)) ≡ true
-    → brought_by (has tables) (has_word words) (known ways f 12 at) (word_at f (at + 1)) ≡ true
-    → BringsThere tables words f ways at
-unfolding BringsThere known
-brings_so tables words f ways at h l =
+pub brings_so : (tables words : List ℕ) (f : ℕ → ℕ) (ways : Ways) (at : ℕ) (gap : Option Gap)
+    → flows ways f at (kind_of (f at)) ≡ true → is_leap (kind_of (f at)) ≡ true
+    → Tells gap (brought_by (has tables) (has_word words) (known ways f 12 at) (word_at f (at + 1)))
+    → GapTells tables words f ways at gap
+unfolding flows_there leaps_there brought_there known
+brings_so tables words f ways at None h l tells =
     both_hold (flows ways f at (kind_of (f at))) (is_leap (kind_of (f at)))
-    (brought_by (has tables) (has_word words) (fact ways f far at) (word_at f (at + 1))) h (inr l)
+    (brought_by (has tables) (has_word words) (fact ways f far at) (word_at f (at + 1))) h (inr tells)
+brings_so tables words f ways at (Some GapWays) h l tells = absurd tells
+brings_so tables words f ways at (Some Outside) h l tells = l
+brings_so tables words f ways at (Some Pair) h l tells = (l, tells)
+brings_so tables words f ways at (Some Unknown) h l tells = (l, tells)
+brings_so tables words f ways at (Some Missing) h l tells = (l, tells)
 
 pub place_brings : (tables words : List ℕ) (f : ℕ → ℕ) (ways : Ways) (at : ℕ) (note : Option Note)
-    → PlaceBrings tables words f ways at note → brings_at (has tables) (has_word words) f ways at note ≡ true
-unfolding BringsThere
+    → PlaceTells tables words f ways at note None → brings_at (has tables) (has_word words) f ways at note ≡ true
+unfolding flows_there leaps_there brought_there
 place_brings tables words f ways at None h = refl
 place_brings tables words f ways at (Some note) h = h

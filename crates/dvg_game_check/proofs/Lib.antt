@@ -7,3 +7,4 @@ pub mod Accepted
 pub mod Ors
 pub mod Knows
 pub mod Offers
+pub mod Listed

@@ -2,7 +2,7 @@
 use Rattle.std.proofs.Common.{◌≡◌, ℕ, zero, suc, ◌+◌, ◌<◌, ◌&&◌, Bool, true, false, refl, sym, ◌∙◌, ap, arith, inl, inr, ◌≤◌, ◌⊎◌}
 use Rattle.std.proofs.lemmas.Bool.Decides.{nat_tests}
 use Rattle.std.proofs.Math.Nat.{eq-or-lt_of_le}
-use Rattle.dvg_game_rules.specs.Checker.{all_under, is_code, places}
+use Rattle.dvg_game_words.specs.Checker.{all_under, is_code, places}
 
 and_false : (b : Bool) → (b && false) ≡ false
 and_false true = refl
@@ -15,6 +15,14 @@ all_under_fails p (suc n) k h e =
       | inl same ↦ (let f : p n ≡ false = ap p (sym same) ∙ e in rw f)
       | inr less ↦ (let f : all_under n p ≡ false = all_under_fails p n k less e in rw f (and_false (p n)))
     ]
+
+-- and where it holds of all, it holds of each
+pub under : (n : ℕ) (p : ℕ → Bool) → all_under n p ≡ true → (i : ℕ) → i < n → p i ≡ true
+under n p all i less = by (p i) refl
+  where
+    by : (b : Bool) → p i ≡ b → p i ≡ true
+    by true is = is
+    by false is = absurd (let e : false ≡ true = sym (all_under_fails p n i less is) ∙ all in cc)
 
 -- a test that holds of all below one, and of that one
 pub all_under_more : (p : ℕ → Bool) (n : ℕ) → all_under n p ≡ true → p n ≡ true → all_under (n + 1) p ≡ true

@@ -2,7 +2,7 @@
 use Rattle.std.proofs.Common.{◌≡◌, ℕ, zero, suc, ◌+◌, ◌<◌, ◌≤◌, ◌&&◌, Bool, true, false, List, [], ◌∷◌, length, map, get_or, drop, refl, sym, ◌∙◌, ap, arith, add-one}
 use Rattle.std.proofs.Math.ListN.{drop_of_length-le}
 use Rattle.std.proofs.Math.Seq.{drop-cons}
-use Rattle.dvg_game_rules.specs.Checker.{serve, serves}
+use Rattle.dvg_game_words.specs.Checker.{serve, serves}
 use Rattle.dvg_game_check.specs.declared.note.Slot.{Slot}
 use Rattle.dvg_game_check.specs.Rules.{slot_meant}
 

@@ -1,6 +1,6 @@
 -- The table of letters has the kind of each opcode.
 use Rattle.std.proofs.Common.{◌≡◌, ℕ, zero, suc, ◌+◌, ◌<◌, List, [], ◌∷◌, length, map, get_or, refl, sym, ◌∙◌, ap, arith}
-use Rattle.dvg_game_rules.specs.Kinds.{Kind, kind_of}
+use Rattle.dvg_game_words.specs.Kinds.{Kind, kind_of}
 use Rattle.dvg_game_check.specs.Letters.{lettered}
 use Rattle.dvg_game_check.specs.declared.kind.TheConstants.{KINDS}
 

@@ -1,7 +1,7 @@
 -- The way of a reset, step by step.
 use Rattle.std.proofs.Common.{◌≡◌, ℕ, zero, suc, ◌+◌, ◌-◌, ◌<◌, ◌≤◌, ◌&&◌, Bool, true, false, refl, sym, ◌∙◌, ap, arith, if◌then◌else◌, nat_eq, eq-eqb, eqb-true}
-use Rattle.dvg_game_rules.specs.Kinds.{kind_of}
-use Rattle.dvg_game_rules.specs.Checker.{boots, bytes_of, is_code, may_boot, stand_at, stack_setting}
+use Rattle.dvg_game_words.specs.Kinds.{kind_of}
+use Rattle.dvg_game_words.specs.Checker.{boots, bytes_of, is_code, may_boot, stand_at, stack_setting}
 use Rattle.dvg_game_check.specs.Program.{way}
 
 pub way_zero : (f : ℕ → ℕ) (at start : ℕ) → way 0 f at start ≡ false

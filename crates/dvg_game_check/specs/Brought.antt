@@ -1,19 +1,23 @@
 -- What the values of the code mean in the rules of what a program brings.
-use Rattle.std.specs.Prelude.{◌≡◌, ℕ, suc, ◌+◌, ◌*◌, ◌-◌, ◌&&◌, ◌||◌, Bool, true, false, not, nat_eq, nat_le, if◌then◌else◌, bit_or}
+use Rattle.std.specs.Prelude.{◌≡◌, ℕ, suc, ◌+◌, ◌*◌, ◌-◌, ◌<◌, ◌≤◌, ◌&&◌, ◌||◌, Bool, true, false, not, nat_eq, nat_le, if◌then◌else◌, bit_or}
 use Rattle.std.specs.Prelude.{Option, None, Some, List, [], ◌∷◌, slice_index}
-use Rattle.dvg_calls_6502.specs.Processor.{target}
-use Rattle.dvg_game_rules.specs.Checker
-use Rattle.dvg_game_rules.specs.Checker.{first, noted}
-use Rattle.dvg_game_rules.specs.Kinds
-use Rattle.dvg_game_rules.specs.Kinds.{Quiet, Reads, Transfer, Stores, Push, PushFlags, Pull, PullFlags, Branch, Jump, Call}
-use Rattle.dvg_game_rules.specs.Kinds.{Return, Finish, Wild, kind_of, size}
-use Rattle.dvg_game_rules.specs.Machine.{is_driver, word_at}
-use Rattle.dvg_game_content.specs.Brings
-use Rattle.dvg_game_content.specs.Brings.{Ways, bound, brings_by, fact, brought_by, far, fixed, flows, is_free, is_leap, kept_by, listed, passes_on, smaller}
-use Rattle.dvg_game_content.specs.Brings.{with_bits}
+use Rattle.dvg_game_words.specs.Processor.{target}
+use Rattle.dvg_game_words.specs.Checker
+use Rattle.dvg_game_words.specs.Checker.{first, noted, places}
+use Rattle.dvg_game_words.specs.Kinds
+use Rattle.dvg_game_words.specs.Kinds.{Quiet, Reads, Transfer, Stores, Push, PushFlags, Pull, PullFlags, Branch, Jump, Call}
+use Rattle.dvg_game_words.specs.Kinds.{Return, Finish, Wild, kind_of, size}
+use Rattle.dvg_game_words.specs.Machine.{is_driver, word_at}
+use Rattle.dvg_game_words.specs.Brings
+use Rattle.dvg_game_words.specs.Brings.{Ways, bound, brings_by, fact, brought_by, far, fixed, flows, is_free, is_leap, kept_by, listed, passes_on, smaller}
+use Rattle.dvg_game_words.specs.Brings.{with_bits}
 use Rattle.dvg_game_check.specs.declared.known.Known.{Known}
 use Rattle.dvg_game_check.specs.declared.known.Known.TheVariants.{Any, Is, Under, Listed, Masked}
 use Rattle.dvg_game_check.specs.declared.known.Fact.{Fact}
+use Rattle.dvg_game_check.specs.declared.known.Gap.{Gap}
+use Rattle.dvg_game_check.specs.declared.known.Gap.TheVariants.{Ways as GapWays, Pair, Unknown, Outside, Missing}
+use Rattle.dvg_game_check.specs.declared.known.Unseen.{Unseen}
+use Rattle.dvg_game_check.specs.declared.known.Unseen.TheVariants.{Start, At, Table, Word}
 use Rattle.dvg_game_check.specs.declared.note.Note.{Note}
 use Rattle.dvg_game_check.specs.Rules.{HasBytes, notes_in}
 
@@ -88,18 +92,60 @@ has (one ∷ more) n = nat_eq one n || has more n
 abbrev pub has_word : List ℕ → ℕ → ℕ → Bool
 has_word words a x = has words (a + 256 * x)
 
--- as brings_at of a note, not to be unfolded in goals
-unfoldable pub BringsThere : (tables words : List ℕ) (rom : ℕ → ℕ) → Ways → (at : ℕ) → Type 0
-BringsThere tables words rom ways at = (flows ways rom at (kind_of (rom at))
-    && (not (is_leap (kind_of (rom at)))
-    || brought_by (has tables) (has_word words) (fact ways rom far at) (word_at rom (at + 1)))) ≡ true
+-- it is known what a byte is, for each Y
+abbrev pub known_is : Brings.Known → Bool
+known_is Brings.Any = false
+known_is (Brings.Is n) = true
+known_is (Brings.Under n) = false
+known_is (Brings.By f) = true
+
+-- what an answer says of a test: where a list isn't in the program's bytes, nothing
+abbrev pub Tells : Option Gap → Bool → Type 0
+Tells None b = b ≡ true
+Tells (Some GapWays) b = ⊥
+Tells (Some Pair) b = b ≡ false
+Tells (Some Unknown) b = b ≡ false
+Tells (Some Outside) b = Unit {0}
+Tells (Some Missing) b = b ≡ false
+
+-- parts of brings_at, not to be unfolded in goals: each place that it leads to is come to as is noted; it is a JSR or a JMP;
+-- what it brings is in the lists
+unfoldable pub flows_there : (rom : ℕ → ℕ) → Ways → (at : ℕ) → Bool
+flows_there rom ways at = flows ways rom at (kind_of (rom at))
+
+unfoldable pub leaps_there : (rom : ℕ → ℕ) → (at : ℕ) → Bool
+leaps_there rom at = is_leap (kind_of (rom at))
+
+unfoldable pub brought_there : (tables words : List ℕ) (rom : ℕ → ℕ) → Ways → (at : ℕ) → Bool
+brought_there tables words rom ways at =
+    brought_by (has tables) (has_word words) (fact ways rom far at) (word_at rom (at + 1))
+
+-- which of them is false: of an instruction whose list isn't in the program's bytes, none
+abbrev pub IsGap : (tables words : List ℕ) (rom : ℕ → ℕ) → Ways → (at : ℕ) → Gap → Type 0
+IsGap tables words rom ways at GapWays = flows_there rom ways at ≡ false
+IsGap tables words rom ways at Outside = leaps_there rom at ≡ true
+IsGap tables words rom ways at gap = (leaps_there rom at ≡ true) × (brought_there tables words rom ways at ≡ false)
+
+abbrev pub GapTells : (tables words : List ℕ) (rom : ℕ → ℕ) → Ways → (at : ℕ) → Option Gap → Type 0
+GapTells tables words rom ways at None =
+    (flows_there rom ways at && (not (leaps_there rom at) || brought_there tables words rom ways at)) ≡ true
+GapTells tables words rom ways at (Some gap) = IsGap tables words rom ways at gap
 
 -- and of a place with its note, if it has one
-abbrev pub PlaceBrings : (tables words : List ℕ) (rom : ℕ → ℕ) → Ways → (at : ℕ) → Option Checker.Note → Type 0
-PlaceBrings tables words rom ways at None = Unit {0}
-PlaceBrings tables words rom ways at (Some note) = BringsThere tables words rom ways at
+abbrev pub PlaceTells : (tables words : List ℕ) (rom : ℕ → ℕ) → Ways → (at : ℕ) → Option Checker.Note → Option Gap → Type 0
+PlaceTells tables words rom ways at None None = Unit {0}
+PlaceTells tables words rom ways at None (Some gap) = ⊥
+PlaceTells tables words rom ways at (Some note) gap = GapTells tables words rom ways at gap
 
 -- what each ROM with these bytes offers and puts is in these lists
 abbrev pub BringsOnly : (bytes : List ℕ) (notes : List (Option Note)) (ways tables words : List ℕ) → (start : ℕ) → Type 0
 BringsOnly bytes notes ways tables words start = (rom : ℕ → ℕ) → HasBytes bytes rom
     → brings_by (has tables) (has_word words) rom start (notes_in notes) (ways_in ways) ≡ true
+
+-- why it isn't seen to be, and accepted: of each ROM with these bytes
+abbrev pub IsUnseen : (bytes : List ℕ) (notes : List (Option Note)) (ways tables words : List ℕ) → (start : ℕ) → Unseen → Type 0
+IsUnseen bytes notes ways tables words start Start = is_free (ways_in ways) start ≡ false
+IsUnseen bytes notes ways tables words start (At at gap) = ((rom : ℕ → ℕ) → HasBytes bytes rom
+    → PlaceTells tables words rom (ways_in ways) at (noted (notes_in notes) at) (Some gap)) × (first ≤ at) × (at < first + places)
+IsUnseen bytes notes ways tables words start (Table t) = has tables t ≡ true
+IsUnseen bytes notes ways tables words start (Word word) = has words word ≡ true

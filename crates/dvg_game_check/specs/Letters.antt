@@ -1,9 +1,9 @@
 -- Letters for the kinds of instructions.
 use Rattle.std.specs.Prelude.{ℕ, nat_eq, if◌then◌else◌}
-use Rattle.dvg_calls_6502.specs.Processor.{A, X, Y}
-use Rattle.dvg_game_rules.specs.Kinds.{Nothing, Only, Kind, Quiet, Reads, Transfer, Stores, Push, PushFlags, Pull, PullFlags}
-use Rattle.dvg_game_rules.specs.Kinds.{Branch, Jump, Call, Return, Finish, Wild, ZeroPage, ZeroPageIndexed, Absolute}
-use Rattle.dvg_game_rules.specs.Kinds.{AbsoluteIndexed}
+use Rattle.dvg_game_words.specs.Processor.{A, X, Y}
+use Rattle.dvg_game_words.specs.Kinds.{Nothing, Only, Kind, Quiet, Reads, Transfer, Stores, Push, PushFlags, Pull, PullFlags}
+use Rattle.dvg_game_words.specs.Kinds.{Branch, Jump, Call, Return, Finish, Wild, ZeroPage, ZeroPageIndexed, Absolute}
+use Rattle.dvg_game_words.specs.Kinds.{AbsoluteIndexed}
 
 abbrev pub lettered : ℕ → Kind
 lettered letter =

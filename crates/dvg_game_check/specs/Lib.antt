@@ -5,3 +5,4 @@ pub mod Program
 pub mod Verdicts
 pub mod Brought
 pub mod Offered
+pub mod Why

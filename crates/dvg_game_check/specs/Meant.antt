@@ -1,7 +1,7 @@
 -- What the values of the code mean in the rules.
 use Rattle.std.specs.Prelude.{ℕ}
-use Rattle.dvg_calls_6502.specs.Processor
-use Rattle.dvg_game_rules.specs.Kinds
+use Rattle.dvg_game_words.specs.Processor
+use Rattle.dvg_game_words.specs.Kinds
 use Rattle.dvg_game_check.specs.declared.kind.Kind.{Kind}
 use Rattle.dvg_game_check.specs.declared.kind.Kind.TheVariants.{Quiet, Reads, Transfer, Stores, Push, PushFlags}
 use Rattle.dvg_game_check.specs.declared.kind.Kind.TheVariants.{Pull, PullFlags, Branch, Jump, Call, Return, Finish, Wild}

@@ -1,10 +1,10 @@
 -- What the check of tables and words says.
-use Rattle.std.specs.Prelude.{◌≡◌, ℕ, ◌+◌, ◌*◌, ◌%◌, ◌/◌, ◌<◌, true, List, length, slice_index, All}
+use Rattle.std.specs.Prelude.{◌≡◌, ◌⊎◌, ℕ, ◌+◌, ◌*◌, ◌%◌, ◌/◌, ◌<◌, ◌≤◌, true, List, length, slice_index, All}
 use Rattle.dvg_frame.specs.declared.op.OpKind.{OpKind}
 use Rattle.dvg_frame.specs.Faults.{Accepts}
 use Rattle.dvg_frame.specs.Ops.{IsDraft}
-use Rattle.dvg_calls_6502.specs.Tables.{NamesRom, table_of}
-use Rattle.dvg_game_content.specs.Law.{IsTableAt, IsWordOf}
+use Rattle.dvg_game_words.specs.Tables.{NamesRom, calls_one, is_short, shape_of, table_of}
+use Rattle.dvg_game_words.specs.Machine.{word_at}
 use Rattle.dvg_game_check.specs.Brought.{has}
 use Rattle.dvg_game_check.specs.Rules.{HasBytes}
 
@@ -12,13 +12,13 @@ use Rattle.dvg_game_check.specs.Rules.{HasBytes}
 unfoldable pub IsAccepted : List OpKind → List ℕ → Type 0
 IsAccepted F R = Accepts F R
 
--- each of these words may be put
-abbrev pub WordsFine : (R words : List ℕ) → Type 0
-WordsFine R words = (n : ℕ) → has words n ≡ true → IsWordOf R (n % 256) (n / 256)
+-- the word of these two bytes is a short vector, or a call of a shape that the check accepts
+abbrev pub IsFineWord : (R : List ℕ) (a x : ℕ) → Type 0
+IsFineWord R a x = (is_short a x ≡ true) ⊎ ((0xC0 ≤ x) × (x < 0xD0) × IsAccepted (calls_one (shape_of a x)) R)
 
--- at each of these addresses is a table, in each ROM with these bytes
-abbrev pub TablesFine : (R bytes tables : List ℕ) → Type 0
-TablesFine R bytes tables = (n : ℕ) → has tables n ≡ true → (rom : ℕ → ℕ) → HasBytes bytes rom → IsTableAt R rom n
+-- each of these words is one
+abbrev pub WordsFine : (R words : List ℕ) → Type 0
+WordsFine R words = (n : ℕ) → has words n ≡ true → IsFineWord R (n % 256) (n / 256)
 
 -- the bytes of a draft's table are there
 abbrev pub AreThere : (F : List OpKind) (bytes : List ℕ) (at : ℕ) → Type 0
@@ -32,3 +32,18 @@ pub record IsLaid (F : List OpKind) (R bytes : List ℕ) (t count : ℕ) : Type 
   pub names : All NamesRom F
   pub long : length (table_of F) ≡ 2 * count
   pub there : AreThere F bytes (t + 2)
+
+-- at an address of the program's bytes is the table of such a draft
+pub record IsFineTable (R bytes : List ℕ) (t : ℕ) : Type 0 where
+  pub draft : List OpKind
+  pub count : ℕ
+  pub laid : IsLaid draft R bytes t count
+  pub head : (rom : ℕ → ℕ) → HasBytes bytes rom → count ≡ word_at rom t
+  pub some : 1 ≤ count
+  pub most : count ≤ 511
+  pub low : 0x6800 ≤ t
+  pub ends : t + 2 + 2 * count ≤ 0x8000
+
+-- at each of these is one
+abbrev pub TablesFine : (R bytes tables : List ℕ) → Type 0
+TablesFine R bytes tables = (n : ℕ) → has tables n ≡ true → IsFineTable R bytes n

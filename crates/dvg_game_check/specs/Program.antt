@@ -1,9 +1,9 @@
 -- What the check says of a program and its notes.
 use Rattle.std.specs.Prelude.{◌≡◌, ℕ, ◌+◌, ◌<◌, ◌≤◌, ◌&&◌, Bool, true, false, List, Option}
-use Rattle.dvg_calls_6502.specs.Code.{code}
-use Rattle.dvg_game_rules.specs.Checker.{Notes, accepts, all_under, boot_most, boots, fine_at, first, interrupts, noted, places}
-use Rattle.dvg_game_rules.specs.Checker.{stand_at, starts}
-use Rattle.dvg_game_rules.specs.Machine.{nmi_vector, reset_vector, word_at}
+use Rattle.dvg_game_words.specs.Code.{code}
+use Rattle.dvg_game_words.specs.Checker.{Notes, accepts, all_under, boot_most, boots, fine_at, first, interrupts, noted, places}
+use Rattle.dvg_game_words.specs.Checker.{stand_at, starts}
+use Rattle.dvg_game_words.specs.Machine.{nmi_vector, reset_vector, word_at}
 use Rattle.dvg_game_check.specs.declared.note.Note.{Note}
 use Rattle.dvg_game_check.specs.declared.program.Refusal.{Refusal}
 use Rattle.dvg_game_check.specs.declared.program.Refusal.TheVariants.{Boot, Driver, Start, Nmi, At}

@@ -1,14 +1,14 @@
 -- What the values of the code mean in the rules, beyond kinds.
 use Rattle.std.specs.Prelude.{◌≡◌, ℕ, ◌+◌, ◌-◌, ◌%◌, ◌<◌, ◌≤◌, ◌&&◌, ◌||◌, Bool, true, false, not, nat_eq, nat_le, if◌then◌else◌}
 use Rattle.std.specs.Prelude.{Option, None, Some, List, [], ◌∷◌, map, length, slice_index, slice_index_or}
-use Rattle.dvg_calls_6502.specs.Processor.{A, target}
-use Rattle.dvg_game_rules.specs.Checker
-use Rattle.dvg_game_rules.specs.Checker.{Notes, all_under, may_write, is_strobe, leads, first, set, holding, of_held, pushing, pulling}
-use Rattle.dvg_game_rules.specs.Checker.{newest, same_level, enters, implies, noted, begun, ends_of, all_serve, unchanged}
-use Rattle.dvg_game_rules.specs.Kinds
-use Rattle.dvg_game_rules.specs.Kinds.{Quiet, Reads, Transfer, Stores, Push, PushFlags, Pull, PullFlags, Branch, Jump, Call}
-use Rattle.dvg_game_rules.specs.Kinds.{Return, Finish, Wild, size}
-use Rattle.dvg_game_rules.specs.Machine.{is_own, is_driver, is_reset, blank_after}
+use Rattle.dvg_game_words.specs.Processor.{A, target}
+use Rattle.dvg_game_words.specs.Checker
+use Rattle.dvg_game_words.specs.Checker.{Notes, all_under, may_write, is_strobe, leads, first, set, holding, of_held, pushing, pulling}
+use Rattle.dvg_game_words.specs.Checker.{newest, same_level, enters, implies, noted, begun, ends_of, all_serve, unchanged}
+use Rattle.dvg_game_words.specs.Kinds
+use Rattle.dvg_game_words.specs.Kinds.{Quiet, Reads, Transfer, Stores, Push, PushFlags, Pull, PullFlags, Branch, Jump, Call}
+use Rattle.dvg_game_words.specs.Kinds.{Return, Finish, Wild, size}
+use Rattle.dvg_game_words.specs.Machine.{is_own, is_driver, is_reset, blank_after}
 use Rattle.dvg_game_check.specs.declared.note.Level.{Level}
 use Rattle.dvg_game_check.specs.declared.note.Level.TheVariants.{Main, Sub, Nmi}
 use Rattle.dvg_game_check.specs.declared.note.Slot.{Slot}

@@ -1,6 +1,6 @@
 //! Whether what an instruction leaves is what the note of the next one asks for.
 ghost use Rattle.std.specs.Prelude.{◌≡◌, ◌∷◌, map, length};
-ghost use Rattle.dvg_game_rules.specs.Checker as rules;
+ghost use Rattle.dvg_game_words.specs.Checker as rules;
 ghost use Rattle.dvg_game_check.specs.Meant.{register_meant, sets_meant};
 ghost use Rattle.dvg_game_check.specs.Rules.{changed, held_meant, level_meant, note_meant};
 ghost use Rattle.dvg_game_check.specs.Rules.{notes_in, option_meant, slot_meant};
@@ -145,7 +145,7 @@ fn serve_pulled(new: &[Slot], known: &[Slot]) -> bool
     serve(new, &known[1..])
 }
 
-fn level_after(change: Change, now: &Note) -> Level
+pub fn level_after(change: Change, now: &Note) -> Level
     ensures { level_meant result ≡ (changed change (note_meant now.now)).level }
 {
     match change {
@@ -154,7 +154,7 @@ fn level_after(change: Change, now: &Note) -> Level
     }
 }
 
-fn depth_after(change: Change, now: &Note) -> u32
+pub fn depth_after(change: Change, now: &Note) -> u32
     ensures { result ≡ (changed change (note_meant now.now)).depth }
 {
     match change {
@@ -165,7 +165,7 @@ fn depth_after(change: Change, now: &Note) -> u32
     }
 }
 
-fn room_after(change: Change, now: &Note) -> u32
+pub fn room_after(change: Change, now: &Note) -> u32
     ensures { result ≡ (changed change (note_meant now.now)).room }
 {
     match change {
@@ -176,7 +176,7 @@ fn room_after(change: Change, now: &Note) -> u32
     }
 }
 
-fn awake_after(change: Change, now: &Note) -> bool
+pub fn awake_after(change: Change, now: &Note) -> bool
     ensures { result ≡ (changed change (note_meant now.now)).awake }
 {
     match change {
@@ -185,7 +185,7 @@ fn awake_after(change: Change, now: &Note) -> bool
     }
 }
 
-fn blank_after(change: Change, now: &Note) -> bool
+pub fn blank_after(change: Change, now: &Note) -> bool
     ensures { result ≡ (changed change (note_meant now.now)).blank }
 {
     match change {
@@ -194,7 +194,7 @@ fn blank_after(change: Change, now: &Note) -> bool
     }
 }
 
-fn ends_after(change: Change, now: &Note) -> bool
+pub fn ends_after(change: Change, now: &Note) -> bool
     ensures { result ≡ (changed change (note_meant now.now)).ends }
 {
     match change {
@@ -203,7 +203,7 @@ fn ends_after(change: Change, now: &Note) -> bool
     }
 }
 
-fn held_after(change: Change, now: &Note) -> Held
+pub fn held_after(change: Change, now: &Note) -> Held
     ensures { held_meant result ≡ (changed change (note_meant now.now)).held }
 {
     match change {
@@ -212,9 +212,8 @@ fn held_after(change: Change, now: &Note) -> Held
     }
 }
 
-fn slots_serve(change: Change, now: &Note, new: &Note) -> bool
-    ensures { result
-        ≡ rules.serve (note_meant new.now).slots (changed change (note_meant now.now)).slots }
+pub fn slots_serve(change: Change, now: &Note, new: &Note) -> bool
+    ensures { result ≡ rules.serve (note_meant new.now).slots (changed change (note_meant now.now)).slots }
 {
     let (asked, known) = (new.slots.as_slice(), now.slots.as_slice());
     match change {
@@ -250,7 +249,7 @@ pub fn suits(change: Change, now: &Note, new: &Note) -> bool
 }
 
 /// Returns whether an instruction with the note `now` may lead to this address.
-#[tactic(auto, unfolding(dvg_game_rules::specs::Checker::places))]
+#[tactic(auto, unfolding(dvg_game_words::specs::Checker::places))]
 pub fn leads(notes: &[Option<Note>], to: u32, change: Change, now: &Note) -> bool
     requires { length notes.now ≡ PLACES }
     ensures { result ≡ rules.leads (notes_in notes.now) to (changed change (note_meant now.now)) }

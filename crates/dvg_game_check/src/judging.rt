@@ -1,11 +1,14 @@
 //! The judge of a program.
 ghost use Rattle.std.specs.Prelude.{◌≡◌, IfOk, length};
-ghost use Rattle.dvg_game_check.specs.Verdicts.{Means};
+ghost use Rattle.dvg_game_check.specs.Program.{IsAccepted};
+ghost use Rattle.dvg_game_check.specs.Verdicts.{Means, Says};
 
+use crate::follow::PLACES;
 use crate::gather::{brought_to, ways};
-use crate::known::brings_only;
+use crate::known::{Unseen, brings_gap};
 use crate::maker::make;
-use crate::offered::{tables_fine, words_fine};
+use crate::note::Note;
+use crate::offered::{bad_table, bad_word};
 use crate::program::{Refusal, boot, check_rules};
 use crate::rules::BYTES;
 use dvg_mem::Rom;
@@ -17,9 +20,54 @@ pub enum Verdict {
     /// No run of it tears a picture.
     Keeps(u32),
     /// It keeps the rules, but not all that it offers and puts is seen, and accepted.
-    Unseen(u32),
+    Unseen(u32, Unseen),
     /// It is refused, with the notes that were made.
     Refused(Refusal),
+}
+
+/// What is said of a program, and of what: nobody has to trust how these were made.
+#[derive(Drop)]
+pub struct Judged {
+    pub verdict: Verdict,
+    /// A note for each place from `FIRST` on, if code is there.
+    pub notes: Vec<Option<Note>>,
+    /// For each place, how many bytes the instruction has from which alone it is come to, or 0.
+    /// There are none where the program is refused.
+    pub ways: Vec<u8>,
+    /// Where the tables are that it offers, and the words that it puts.
+    pub tables: Vec<u16>,
+    pub words: Vec<u16>,
+}
+
+// Returns what is to be said of a program that is accepted with these notes.
+fn say<A: Allocator>(
+    rom: &[u8],
+    vectors: &Rom<A>,
+    notes: &[Option<Note>],
+    ways: &[u8],
+    tables: &[u16],
+    words: &[u16],
+    start: u32,
+) -> Verdict
+    requires bytes { length rom.now ≡ BYTES }
+    requires notes { length notes.now ≡ PLACES }
+    requires ways { length ways.now ≡ PLACES }
+    requires accepted { IsAccepted rom.now notes.now start }
+    ensures { Says rom.now vectors.now notes.now ways.now tables.now words.now result }
+{
+    match brings_gap(rom, notes, ways, tables, words, start) {
+        Some(why) => return Verdict::Unseen(start, why),
+        None => {}
+    }
+    match bad_table(rom, vectors, tables) {
+        Some(t) => return Verdict::Unseen(start, Unseen::Table(t)),
+        None => {}
+    }
+    match bad_word(words, vectors) {
+        Some(word) => return Verdict::Unseen(start, Unseen::Word(word)),
+        None => {}
+    }
+    Verdict::Keeps(start)
 }
 
 /// Returns what is to be said of a program, with the vector ROM of its shapes.
@@ -27,31 +75,38 @@ pub fn judge<A: Allocator>(
     alloc: Global,
     rom: &[u8],
     vectors: &Rom<A>,
-) -> Result<Verdict, AllocError>
+) -> Result<Judged, AllocError>
     requires { length rom.now ≡ BYTES }
-    ensures { IfOk result (λ verdict. Means rom.now vectors.now verdict) }
+    ensures { IfOk result (λ judged. Means rom.now vectors.now judged) }
 {
     let start = match boot(rom) {
         Ok(start) => start,
         Err(_) => 0,
     };
-    let made = make(alloc, rom, start)?;
-    let notes = made.as_slice();
-    match check_rules(rom, notes) {
-        Err(why) => Ok(Verdict::Refused(why)),
+    let notes = make(alloc, rom, start)?;
+    let all = notes.as_slice();
+    match check_rules(rom, all) {
+        Err(why) => Ok(Judged {
+            verdict: Verdict::Refused(why),
+            notes,
+            ways: Vec::new(alloc),
+            tables: Vec::new(alloc),
+            words: Vec::new(alloc),
+        }),
         Ok(start) => {
-            let made_ways = ways(alloc, rom, notes, start)?;
-            let found = made_ways.as_slice();
-            let made_tables = brought_to(alloc, rom, notes, found, 0x68FE)?;
-            let made_words = brought_to(alloc, rom, notes, found, 0x6957)?;
-            let (tables, words) = (made_tables.as_slice(), made_words.as_slice());
-            if brings_only(rom, notes, found, tables, words, start)
-                && tables_fine(rom, vectors, tables)
-                && words_fine(words, vectors)
-            {
-                return Ok(Verdict::Keeps(start));
-            }
-            Ok(Verdict::Unseen(start))
+            let ways = ways(alloc, rom, all, start)?;
+            let found = ways.as_slice();
+            let tables = brought_to(alloc, rom, all, found, 0x68FE)?;
+            let words = brought_to(alloc, rom, all, found, 0x6957)?;
+            let (offered, put) = (tables.as_slice(), words.as_slice());
+            let verdict = say(rom, vectors, all, found, offered, put, start);
+            Ok(Judged {
+                verdict,
+                notes,
+                ways,
+                tables,
+                words,
+            })
         }
     }
 }

@@ -1,6 +1,6 @@
 //! The kinds of the 6502's instructions.
 ghost use Rattle.std.specs.Prelude.{◌≡◌, slice_index};
-ghost use Rattle.dvg_game_rules.specs.Kinds.{kind_of, size as bytes_at};
+ghost use Rattle.dvg_game_words.specs.Kinds.{kind_of, size as bytes_at};
 ghost use Rattle.dvg_game_check.specs.Meant.{kind_meant, place_meant};
 ghost use Rattle.dvg_game_check.specs.Letters.{lettered};
 

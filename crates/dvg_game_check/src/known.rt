@@ -1,15 +1,14 @@
 //! What a program brings at its calls of the driver.
-ghost use Rattle.std.specs.Prelude.{◌≡◌, ℕ, ◌+◌, ◌*◌, ◌<◌, ◌≤◌, IfSome, Some, length, true};
-ghost use Rattle.dvg_calls_6502.specs.Processor as processor;
-ghost use Rattle.dvg_game_content.specs.Brings as brings;
-ghost use Rattle.dvg_game_content.specs.Brings.{brought_by, of_each};
-ghost use Rattle.dvg_game_check.specs.Brought.{BringsOnly, BringsThere, PlaceBrings, fact_meant};
-ghost use Rattle.dvg_game_check.specs.Brought.{flows_with, has};
-ghost use Rattle.dvg_game_check.specs.Brought.{has_word, known, known_meant, next_with};
+ghost use Rattle.std.specs.Prelude.{◌≡◌, ℕ, ◌+◌, ◌*◌, ◌<◌, ◌≤◌, IfSome, MatchOption, Some, length};
+ghost use Rattle.dvg_game_words.specs.Processor as processor;
+ghost use Rattle.dvg_game_words.specs.Brings as brings;
+ghost use Rattle.dvg_game_words.specs.Brings.{brought_by, of_each};
+ghost use Rattle.dvg_game_check.specs.Brought.{BringsOnly, GapTells, IsUnseen, PlaceTells, Tells, fact_meant};
+ghost use Rattle.dvg_game_check.specs.Brought.{flows_with, has, has_word, known, known_is, known_meant, next_with};
 ghost use Rattle.dvg_game_check.specs.Brought.{value_of, ways_in};
 ghost use Rattle.dvg_game_check.specs.Meant.{kind_meant};
 ghost use Rattle.dvg_game_check.specs.Rules.{HasBytes, notes_in};
-ghost use Rattle.dvg_game_rules.specs.Checker.{noted};
+ghost use Rattle.dvg_game_words.specs.Checker.{noted};
 
 use crate::follow::{FIRST, PLACES};
 use crate::kind::{Kind, Sets, kind_of, size};
@@ -292,7 +291,7 @@ pub fn value(rom: &[u8], known: Known, y: u16) -> Option<u8>
 
 // Returns whether a list has a number.
 pub fn contains(list: &[u16], n: u16) -> bool
-    ensures { result ≡ true → has list.now n ≡ true }
+    ensures { result ≡ has list.now n }
 {
     for i in 0..list.len() {
         if list[i] == n {
@@ -302,35 +301,71 @@ pub fn contains(list: &[u16], n: u16) -> bool
     false
 }
 
-// Returns whether a list has each word that A and X may be.
-fn all_pairs(rom: &[u8], list: &[u16], fact: Fact) -> bool
-    requires { length rom.now ≡ BYTES }
-    ensures { (f : ℕ → ℕ) → HasBytes rom.now f → result ≡ true
-        → of_each (fact_meant f fact) (has_word list.now) ≡ true }
-{
-    for y in 0..fact.most {
-        let (Some(a), Some(x)) = (value(rom, fact.a, y), value(rom, fact.x, y)) else {
-            return false;
-        };
-        if !contains(list, u16::from(a) + 256 * u16::from(x)) {
-            return false;
-        }
-    }
-    0 < fact.most
+/// Why what an instruction brings isn't seen to be in the lists.
+#[derive(Clone, Copy, Debug, PartialEq, Eq)]
+pub enum Gap {
+    /// Where it leads, a place is come to otherwise than is noted.
+    Ways,
+    /// It calls `dvg_pair`.
+    Pair,
+    /// A or X may be anything.
+    Unknown,
+    /// A or X is in a list that isn't all in the program's bytes, or no Y is known for it.
+    Outside,
+    /// A word that A and X may be isn't in the list.
+    Missing,
 }
 
-// Returns whether what is brought to a routine of the driver is in these lists.
-fn brought(rom: &[u8], tables: &[u16], words: &[u16], fact: Fact, to: u16) -> bool
+// Returns whether it is known what a byte is, for each Y.
+fn is_known(known: Known) -> bool
+    ensures { (f : ℕ → ℕ) → result ≡ known_is (known_meant f known) }
+{
+    match known {
+        Known::Any | Known::Under(_) => false,
+        Known::Is(_) | Known::Listed(_) | Known::Masked(_, _) => true,
+    }
+}
+
+// Returns why a list isn't seen to have each word that A and X may be.
+fn pairs_gap(rom: &[u8], list: &[u16], fact: Fact) -> Option<Gap>
     requires { length rom.now ≡ BYTES }
-    ensures { (f : ℕ → ℕ) → HasBytes rom.now f → result ≡ true
-        → brought_by (has tables.now) (has_word words.now) (fact_meant f fact) to ≡ true }
+    ensures { (f : ℕ → ℕ) → HasBytes rom.now f
+        → Tells result (of_each (fact_meant f fact) (has_word list.now)) }
+{
+    if !is_known(fact.a) {
+        return Some(Gap::Unknown);
+    }
+    if !is_known(fact.x) {
+        return Some(Gap::Unknown);
+    }
+    for y in 0..fact.most {
+        let (Some(a), Some(x)) = (value(rom, fact.a, y), value(rom, fact.x, y)) else {
+            return Some(Gap::Outside);
+        };
+        if !contains(list, u16::from(a) + 256 * u16::from(x)) {
+            return Some(Gap::Missing);
+        }
+    }
+    if fact.most == 0 {
+        return Some(Gap::Outside);
+    }
+    None
+}
+
+// Returns why what is brought to a routine of the driver isn't seen to be in these lists.
+fn brought_gap(rom: &[u8], tables: &[u16], words: &[u16], fact: Fact, to: u16) -> Option<Gap>
+    requires { length rom.now ≡ BYTES }
+    ensures { (f : ℕ → ℕ) → HasBytes rom.now f
+        → Tells result (brought_by (has tables.now) (has_word words.now) (fact_meant f fact) to) }
 {
     if to == 0x68FE {
-        all_pairs(rom, tables, fact)
+        pairs_gap(rom, tables, fact)
     } else if to == 0x6957 {
-        all_pairs(rom, words, fact)
+        pairs_gap(rom, words, fact)
+    } else if to == 0x6989 {
+        Some(Gap::Pair)
     } else {
-        to != 0x6989
+        None
     }
 }
 
@@ -346,69 +381,89 @@ fn is_leap(kind: Kind) -> bool
     }
 }
 
-// Returns whether what an instruction brings is in these lists, and its ways are as the notes say.
-fn brings_there(rom: &[u8], ways: &[u8], tables: &[u16], words: &[u16], at: u32) -> bool
+// Returns why what an instruction brings isn't seen to be in these lists, or its ways aren't as
+// noted.
+fn gap_there(rom: &[u8], ways: &[u8], tables: &[u16], words: &[u16], at: u32) -> Option<Gap>
     requires bytes { length rom.now ≡ BYTES }
     requires ways { length ways.now ≡ PLACES }
     requires first { FIRST ≤ at }
     requires last { at < FIRST + PLACES }
-    ensures { (f : ℕ → ℕ) → HasBytes rom.now f → result ≡ true
-        → BringsThere tables.now words.now f (ways_in ways.now) at }
+    ensures { (f : ℕ → ℕ) → HasBytes rom.now f
+        → GapTells tables.now words.now f (ways_in ways.now) at result }
 {
     let kind = kind_of(byte_at(rom, at));
     let low = byte_at(rom, at + 1);
     let word = word_at(rom, at + 1);
     if !flows(ways, at, kind, low, word) {
-        return false;
+        return Some(Gap::Ways);
     }
     if !is_leap(kind) {
-        return true;
+        return None;
     }
     let fact = known_at(rom, ways, FAR, at);
-    brought(rom, tables, words, fact, word)
+    brought_gap(rom, tables, words, fact, word)
 }
 
-#[tactic(auto, unfolding(dvg_game_rules::specs::Checker::places))]
-fn brings_place(
+#[tactic(auto, unfolding(dvg_game_words::specs::Checker::places))]
+fn place_gap(
     rom: &[u8],
     notes: &[Option<Note>],
     ways: &[u8],
     tables: &[u16],
     words: &[u16],
     at: u32,
-) -> bool
+) -> Option<Gap>
     requires bytes { length rom.now ≡ BYTES }
     requires notes { length notes.now ≡ PLACES }
     requires ways { length ways.now ≡ PLACES }
     requires first { FIRST ≤ at }
     requires last { at < FIRST + PLACES }
-    ensures { (f : ℕ → ℕ) → HasBytes rom.now f → result ≡ true
-        → PlaceBrings tables.now words.now f (ways_in ways.now) at (noted (notes_in notes.now) at) }
+    ensures { (f : ℕ → ℕ) → HasBytes rom.now f
+        → PlaceTells tables.now words.now f (ways_in ways.now) at (noted (notes_in notes.now) at) result }
 {
     match &notes[(at - FIRST) as usize] {
-        None => true,
-        Some(_) => brings_there(rom, ways, tables, words, at),
+        None => None,
+        Some(_) => gap_there(rom, ways, tables, words, at),
     }
 }
 
-/// Returns whether all that a program brings is in these lists, and it calls no `dvg_pair`.
-pub fn brings_only(
+/// Why not all that a program brings is seen, and accepted.
+#[derive(Clone, Copy, Debug, PartialEq, Eq)]
+pub enum Unseen {
+    /// Its first instruction is noted to be come to from another one alone.
+    Start,
+    /// What the instruction at this address brings isn't seen to be in the lists.
+    At(u32, Gap),
+    /// At this address, which is in the list of tables, none is seen that the check accepts.
+    Table(u16),
+    /// This word, which is in the list of words, isn't seen to be one that may be put.
+    Word(u16),
+}
+
+/// Returns why not all that a program brings is seen to be in these lists. Where it is, the program
+/// calls no `dvg_pair`.
+pub fn brings_gap(
     rom: &[u8],
     notes: &[Option<Note>],
     ways: &[u8],
     tables: &[u16],
     words: &[u16],
     start: u32,
-) -> bool
+) -> Option<Unseen>
     requires bytes { length rom.now ≡ BYTES }
     requires notes { length notes.now ≡ PLACES }
     requires ways { length ways.now ≡ PLACES }
-    ensures { result ≡ true → BringsOnly rom.now notes.now ways.now tables.now words.now start }
+    ensures { MatchOption result (BringsOnly rom.now notes.now ways.now tables.now words.now start)
+        (λ why. IsUnseen rom.now notes.now ways.now tables.now words.now start why) }
 {
     for i in 0..PLACES {
-        if !brings_place(rom, notes, ways, tables, words, FIRST + i) {
-            return false;
+        match place_gap(rom, notes, ways, tables, words, FIRST + i) {
+            Some(gap) => return Some(Unseen::At(FIRST + i, gap)),
+            None => {}
         }
     }
-    is_free(ways, start)
+    if !is_free(ways, start) {
+        return Some(Unseen::Start);
+    }
+    None
 }

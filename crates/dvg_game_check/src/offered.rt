@@ -1,13 +1,11 @@
 //! The check of the tables that a program offers, and of the words that it puts.
-ghost use Rattle.std.specs.Prelude.{◌≡◌, ℕ, ◌+◌, ◌*◌, ◌%◌, ◌/◌, ◌<◌, ◌≤◌, IfSome, All};
-ghost use Rattle.std.specs.Prelude.{length, true};
-ghost use Rattle.dvg_calls_6502.specs.Build as build;
+ghost use Rattle.std.specs.Prelude.{◌≡◌, ℕ, ◌+◌, ◌*◌, ◌%◌, ◌/◌, ◌<◌, ◌≤◌, IfSome, MatchOption, All, length, true};
 ghost use Rattle.dvg_frame.specs.Layout as layout;
-ghost use Rattle.dvg_game_content.specs.Law.{IsTableAt, IsWordOf};
-ghost use Rattle.dvg_game_content.specs.Words as words;
-ghost use Rattle.dvg_game_check.specs.Offered.{AreThere, IsAccepted, IsLaid, TablesFine, WordsFine};
+ghost use Rattle.dvg_game_words.specs.Tables as words;
+ghost use Rattle.dvg_game_check.specs.Brought.{has};
+ghost use Rattle.dvg_game_check.specs.Offered.{AreThere, IsAccepted, IsFineTable, IsFineWord, IsLaid, TablesFine, WordsFine};
 ghost use Rattle.dvg_game_check.specs.Rules.{HasBytes};
-ghost use Rattle.dvg_calls_6502.specs.Tables.{NamesRom};
+ghost use Rattle.dvg_game_words.specs.Tables.{NamesRom};
 ghost use Rattle.dvg_frame.specs.Layout.{size};
 ghost use Rattle.dvg_frame.specs.Ops.{IsDraft};
 
@@ -34,7 +32,7 @@ fn is_short(a: u16, x: u16) -> bool
 
 // Returns the draft that calls a shape.
 fn calls_one(shape: u16) -> Option<Draft>
-    ensures { IfSome result (λ draft. draft ≡ build.calls_one shape) }
+    ensures { IfSome result (λ draft. draft ≡ words.calls_one shape) }
 {
     let mut draft = Draft::new();
     let labs = Code::new(Instr::Labs {
@@ -64,7 +62,7 @@ fn is_accepted<A: Allocator>(draft: &Draft, rom: &Rom<A>) -> bool
 
 // Returns whether a shape may be called.
 fn shape_fine<A: Allocator>(shape: u16, rom: &Rom<A>) -> bool
-    ensures { result ≡ true → IsAccepted (build.calls_one shape) rom.now }
+    ensures { result ≡ true → IsAccepted (words.calls_one shape) rom.now }
 {
     match calls_one(shape) {
         Some(draft) => is_accepted(&draft, rom),
@@ -74,7 +72,7 @@ fn shape_fine<A: Allocator>(shape: u16, rom: &Rom<A>) -> bool
 
 // Returns whether a word may be put.
 fn word_fine<A: Allocator>(word: u16, rom: &Rom<A>) -> bool
-    ensures { result ≡ true → IsWordOf rom.now (word % 256) (word / 256) }
+    ensures { result ≡ true → IsFineWord rom.now (word % 256) (word / 256) }
 {
     let (a, x) = (word % 256, word / 256);
     if is_short(a, x) {
@@ -86,16 +84,16 @@ fn word_fine<A: Allocator>(word: u16, rom: &Rom<A>) -> bool
     shape_fine(a + 256 * (x - 0xC0), rom)
 }
 
-/// Returns whether each of these words may be put.
-pub fn words_fine<A: Allocator>(words: &[u16], rom: &Rom<A>) -> bool
-    ensures { result ≡ true → WordsFine rom.now words.now }
+/// Returns the first of these words that isn't seen to be one that may be put.
+pub fn bad_word<A: Allocator>(words: &[u16], rom: &Rom<A>) -> Option<u16>
+    ensures { MatchOption result (WordsFine rom.now words.now) (λ word. has words.now word ≡ true) }
 {
     for i in 0..words.len() {
         if !word_fine(words[i], rom) {
-            return false;
+            return Some(words[i]);
         }
     }
-    true
+    None
 }
 
 // Returns the draft whose table of so many words seems to be at an address. Nothing is promised of
@@ -216,7 +214,7 @@ fn is_laid<A: Allocator>(draft: &Draft, vectors: &Rom<A>, rom: &[u8], t: u32, co
 // Returns whether the table of an accepted draft is at an address.
 fn table_fine<A: Allocator>(rom: &[u8], vectors: &Rom<A>, t: u32) -> bool
     requires { length rom.now ≡ BYTES }
-    ensures { result ≡ true → (f : ℕ → ℕ) → HasBytes rom.now f → IsTableAt vectors.now f t }
+    ensures { result ≡ true → IsFineTable vectors.now rom.now t }
 {
     if t < 0x6800 || 0x7FFC < t {
         return false;
@@ -231,15 +229,15 @@ fn table_fine<A: Allocator>(rom: &[u8], vectors: &Rom<A>, t: u32) -> bool
     }
 }
 
-/// Returns whether the table of an accepted draft is at each of these addresses.
-pub fn tables_fine<A: Allocator>(rom: &[u8], vectors: &Rom<A>, tables: &[u16]) -> bool
+/// Returns the first of these addresses at which no table of an accepted draft is seen.
+pub fn bad_table<A: Allocator>(rom: &[u8], vectors: &Rom<A>, tables: &[u16]) -> Option<u16>
     requires { length rom.now ≡ BYTES }
-    ensures { result ≡ true → TablesFine vectors.now rom.now tables.now }
+    ensures { MatchOption result (TablesFine vectors.now rom.now tables.now) (λ t. has tables.now t ≡ true) }
 {
     for i in 0..tables.len() {
         if !table_fine(rom, vectors, u32::from(tables[i])) {
-            return false;
+            return Some(tables[i]);
         }
     }
-    true
+    None
 }

@@ -1,7 +1,7 @@
 //! The check of a program, with notes of it.
 ghost use Rattle.std.specs.Prelude.{◌≡◌, ℕ, ◌+◌, ◌<◌, ◌≤◌, MatchOption, MatchResult, length, false};
-ghost use Rattle.dvg_calls_6502.specs.Code.{code};
-ghost use Rattle.dvg_game_rules.specs.Checker.{fine_at, interrupts, noted, stand_at, starts};
+ghost use Rattle.dvg_game_words.specs.Code.{code};
+ghost use Rattle.dvg_game_words.specs.Checker.{fine_at, interrupts, noted, stand_at, starts};
 ghost use Rattle.dvg_game_check.specs.Program.{AreFine, BootsNowhere, BootsTo, IsAccepted};
 ghost use Rattle.dvg_game_check.specs.Program.{IsWhy, has_driver};
 ghost use Rattle.dvg_game_check.specs.Program.{IsBadAt, IsRefused};
@@ -30,7 +30,7 @@ pub enum Refusal {
 }
 
 // Returns whether the note of the first instruction is fine.
-#[tactic(auto, unfolding(dvg_game_rules::specs::Checker::places))]
+#[tactic(auto, unfolding(dvg_game_words::specs::Checker::places))]
 fn starts_fine(notes: &[Option<Note>], start: u32) -> bool
     requires { length notes.now ≡ PLACES }
     ensures { result ≡ starts (noted (notes_in notes.now) start) }
@@ -48,7 +48,7 @@ fn starts_fine(notes: &[Option<Note>], start: u32) -> bool
 }
 
 // Returns whether the note of the NMI's first instruction is fine.
-#[tactic(auto, unfolding(dvg_game_rules::specs::Checker::places))]
+#[tactic(auto, unfolding(dvg_game_words::specs::Checker::places))]
 fn interrupts_fine(notes: &[Option<Note>], nmi: u32) -> bool
     requires { length notes.now ≡ PLACES }
     ensures { result ≡ interrupts (noted (notes_in notes.now) nmi) }
@@ -71,8 +71,8 @@ fn interrupts_fine(notes: &[Option<Note>], nmi: u32) -> bool
 }
 
 // Returns whether what is at a place is fine.
-#[tactic(auto, unfolding(dvg_game_rules::specs::Checker::places))]
-fn fine_place(rom: &[u8], notes: &[Option<Note>], at: u32) -> bool
+#[tactic(auto, unfolding(dvg_game_words::specs::Checker::places))]
+pub fn fine_place(rom: &[u8], notes: &[Option<Note>], at: u32) -> bool
     requires bytes { length rom.now ≡ BYTES }
     requires notes { length notes.now ≡ PLACES }
     requires first { FIRST ≤ at }

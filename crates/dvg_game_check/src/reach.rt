@@ -1,8 +1,8 @@
 //! Which addresses an instruction may read or write, and whether it may.
 ghost use Rattle.std.specs.Prelude.{◌≡◌, ◌+◌, ◌*◌, ◌%◌, ◌&&◌, not};
-ghost use Rattle.dvg_game_rules.specs.Checker as rules;
-ghost use Rattle.dvg_game_rules.specs.Checker.{all_under};
-ghost use Rattle.dvg_game_rules.specs.Machine as machine;
+ghost use Rattle.dvg_game_words.specs.Checker as rules;
+ghost use Rattle.dvg_game_words.specs.Checker.{all_under};
+ghost use Rattle.dvg_game_words.specs.Machine as machine;
 ghost use Rattle.dvg_game_check.specs.Meant.{place_meant};
 ghost use Rattle.dvg_game_check.specs.Rules.{level_meant, reached_by, test_meant};
 

@@ -1,11 +1,11 @@
 //! The rules: what is asked of each instruction of a program, and of its reset.
-ghost use Rattle.std.specs.Prelude.{◌≡◌, ℕ, ◌+◌, ◌-◌, ◌<◌, ◌≤◌, ◌&&◌, Some, None, false};
-ghost use Rattle.std.specs.Prelude.{MatchOption, MatchResult, length, not, true};
-ghost use Rattle.dvg_calls_6502.specs.Processor as processor;
-ghost use Rattle.dvg_game_rules.specs.Checker as rules;
-ghost use Rattle.dvg_game_rules.specs.Checker.{ends_of, fine_at, noted, starts, interrupts};
-ghost use Rattle.dvg_game_rules.specs.Machine as machine;
-ghost use Rattle.dvg_game_rules.specs.Machine.{is_own};
+ghost use Rattle.std.specs.Prelude.{◌≡◌, ℕ, ◌+◌, ◌-◌, ◌<◌, ◌≤◌, ◌&&◌, Some, None, false, length, not, true};
+ghost use Rattle.std.specs.Prelude.{MatchOption, MatchResult};
+ghost use Rattle.dvg_game_words.specs.Processor as processor;
+ghost use Rattle.dvg_game_words.specs.Checker as rules;
+ghost use Rattle.dvg_game_words.specs.Checker.{ends_of, fine_at, noted, starts, interrupts};
+ghost use Rattle.dvg_game_words.specs.Machine as machine;
+ghost use Rattle.dvg_game_words.specs.Machine.{is_own};
 ghost use Rattle.dvg_game_check.specs.Meant.{kind_meant, place_meant};
 ghost use Rattle.dvg_game_check.specs.Rules.{HasBytes, boots_with, calls_fine, fine_with};
 ghost use Rattle.dvg_game_check.specs.Rules.{jumps_fine, note_meant, notes_in, reached_by};
@@ -28,7 +28,7 @@ pub fn is_driver(a: u16) -> bool
 }
 
 // Returns whether a routine of the driver begins there.
-fn is_entry(a: u16) -> bool
+pub fn is_entry(a: u16) -> bool
     ensures { result ≡ rules.is_entry a }
 {
     a == 0x6800
@@ -44,7 +44,7 @@ fn is_entry(a: u16) -> bool
 }
 
 // Returns whether a routine goes on with a frame, which has to begin with a LABS.
-fn goes_on(a: u16) -> bool
+pub fn goes_on(a: u16) -> bool
     ensures { result ≡ rules.goes_on a }
 {
     a == 0x6957 || (a == 0x6989 || (a == 0x6A17 || a == 0x6A00))
@@ -74,8 +74,8 @@ fn enters(to: u16, now: &Note) -> bool
 }
 
 // Returns whether a frame may be blank where the subroutine there returns.
-#[tactic(auto, unfolding(dvg_game_rules::specs::Checker::places))]
-fn ends_at(notes: &[Option<Note>], to: u32) -> bool
+#[tactic(auto, unfolding(dvg_game_words::specs::Checker::places))]
+pub fn ends_at(notes: &[Option<Note>], to: u32) -> bool
     requires { length notes.now ≡ PLACES }
     ensures { result ≡ ends_of (noted (notes_in notes.now) to) }
 {
@@ -154,7 +154,7 @@ pub fn target(at: u32, low: u8) -> u32
 }
 
 // Returns whether the driver is awake after a store, which may have been to its own bytes.
-fn still_awake(awake: bool, place: Operand, low: u8, word: u16) -> bool
+pub fn still_awake(awake: bool, place: Operand, low: u8, word: u16) -> bool
     ensures { result ≡ (awake && reached_by (place_meant place) low word (λ a. not (is_own a))) }
 {
     awake && reached(place, low, word, Test::NotOwn)

@@ -33,7 +33,7 @@ known : {R image : List ℕ} {held rom : ℕ → ℕ} {machine : Machine} {work 
 known (powers work calm is_rom is_image same held_in work_in rom_in) = (is_rom, rom_in)
 known (ticks pins on asks) = known on
 
-keeps : (R image : List ℕ) (rom : ℕ → ℕ) (start : ℕ) (held : Held) → IsRom R → length R ≡ 2048 → ((a : ℕ) → rom a < 256)
+pub keeps : (R image : List ℕ) (rom : ℕ → ℕ) (start : ℕ) (held : Held) → IsRom R → length R ≡ 2048 → ((a : ℕ) → rom a < 256)
     → IsLoaded R image rom held
     → ((machine : Machine) (work : ℕ → ℕ) (calm : ℕ) (clocks : List board.Bus)
     → IsWhole R image held.ram rom machine work calm clocks → CellsKeep R image held.ram rom start machine clocks)

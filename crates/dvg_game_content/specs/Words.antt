@@ -13,10 +13,7 @@ use Rattle.dvg_calls_6502.specs.Tables.{table_of}
 use Rattle.dvg_game_rules.specs.Checker.{stand_at}
 use Rattle.dvg_game_rules.specs.Machine.{word_at}
 use Rattle.dvg_game_content.specs.Frames.{passes}
-
--- a call of a shape of this address is the word of these bytes
-abbrev pub shape_of : ℕ → ℕ → ℕ
-shape_of a x = a + 256 * (x - 0xC0)
+pub use Rattle.dvg_game_words.specs.Tables.{is_plain, is_short, shape_of}
 
 -- the bytes of a call of a shape that the check accepts
 abbrev pub calls_shape : List ℕ → ℕ → ℕ → Bool
@@ -28,17 +25,9 @@ number zero n = pos n
 number (suc sign) zero = pos 0
 number (suc sign) (suc n) = negsuc n
 
--- a zero has no sign
-abbrev pub is_plain : ℕ → ℕ → Bool
-is_plain sign n = nat_eq sign 0 || not (nat_eq n 0)
-
 -- the short vector of these bytes
 abbrev pub short_of : ℕ → ℕ → Instr
 short_of a x = Svec (2 + 2 * (a / 8 % 2) + x / 8 % 2) (number (a / 4 % 2) (a % 4)) (number (x / 4 % 2) (x % 4)) (a / 16)
-
--- the bytes of a short vector in its canonical spelling
-abbrev pub is_short : ℕ → ℕ → Bool
-is_short a x = (nat_le 0xF0 x && nat_lt x 0x100) && (is_plain (a / 4 % 2) (a % 4) && is_plain (x / 4 % 2) (x % 4))
 
 abbrev pub may_put : List ℕ → ℕ → ℕ → Bool
 may_put R a x = is_short a x || calls_shape R a x

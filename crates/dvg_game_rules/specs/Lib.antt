@@ -1,6 +1,6 @@
-pub mod Kinds
-pub mod Machine
-pub mod Checker
+pub use Rattle.dvg_game_words.specs.Kinds
+pub use Rattle.dvg_game_words.specs.Machine
+pub use Rattle.dvg_game_words.specs.Checker
 pub mod Safe
 pub mod Between
 pub mod Alike

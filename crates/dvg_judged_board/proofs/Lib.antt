@@ -1,1 +1,2 @@
+mod Offers
 pub mod Keeps

@@ -1,4 +1,4 @@
-/* The definition of the 6502 in crates/dvg_calls_6502/specs/Processor.antt, clause by clause as a
+/* The definition of the 6502 in crates/dvg_game_words/specs/Processor.antt, clause by clause as a
  * plain program, beside the 6502 of cpu.h: random single steps, all of which must agree. The
  * table of opcodes is the definition's own: tests/board makes opcodes.inc of it.
  *

@@ -100,7 +100,7 @@ bytes_of() {
 
 # The driver's bytes, as numbers, which the bench of dvg_machine takes.
 write_driver() {
-    bytes_of dvg_calls_6502/specs/Code.antt '/^code =/,$p' >"$work/driver"
+    bytes_of dvg_game_words/specs/Code.antt '/^code =/,$p' >"$work/driver"
 }
 
 # Those of examples/asteroid_game, as its laws have them, for the bench of dvg_game: the vector ROM,

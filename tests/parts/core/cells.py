@@ -34,7 +34,7 @@ MODULES = ("dvg_core", "dvg_cpu", "dvg_board", "dvg_pace", "dvg_motion", "dvg_ve
 SHOWS = "at high halted done fault stroke x0 y0 x y z".split()
 TELLS = "ends jsrl labs vec sum dx_sign dy_sign dx dy vec_z".split()
 
-PROCESSOR = f"{texts.TOP}/crates/dvg_calls_6502/specs/Processor.antt"
+PROCESSOR = f"{texts.TOP}/crates/dvg_game_words/specs/Processor.antt"
 with open(PROCESSOR, encoding="utf-8") as definition:
     OPCODES = [int(op, 16) for op in re.findall(r"\((0x[0-9A-F]{2}), \w", definition.read())]
 

@@ -11,9 +11,9 @@ import table
 
 CRATES = Path(__file__).resolve().parents[3] / 'crates'
 SPECS = [f'{CRATES}/{name}.antt' for name in (
-    'dvg_game_rules/specs/Checker', 'dvg_game_rules/specs/Machine', 'dvg_game_rules/specs/Kinds',
-    'dvg_game_content/specs/Brings', 'dvg_calls_6502/specs/Processor',
-    'dvg_calls_6502/specs/Code')]
+    'dvg_game_words/specs/Checker', 'dvg_game_words/specs/Machine', 'dvg_game_words/specs/Kinds',
+    'dvg_game_words/specs/Brings', 'dvg_game_words/specs/Processor',
+    'dvg_game_words/specs/Code')]
 TOKEN = re.compile(r'0x\w+|\w+|\|\||&&|[()+%-]')
 OPERATORS = {'||': 'or', '&&': 'and', '+': '+', '%': '%', '-': '-'}
 ADDRESSES = range(0x10000)

@@ -123,7 +123,7 @@ function digestsOfSteps(isSim65 = false) {
 // The opcodes are those of the definition in dvg_calls_6502, with BRK, which it hasn't.
 // Registers, flags, cycles and writes of random steps, and of NMIs, are those of ../board/cpu.h.
 function testSteps() {
-  const definition = readFileSync(`${top}crates/dvg_calls_6502/specs/Processor.antt`, 'utf8');
+  const definition = readFileSync(`${top}crates/dvg_game_words/specs/Processor.antt`, 'utf8');
   const codes = [...definition.matchAll(/\((0x[0-9A-F]{2}), [A-Za-z0-9 ]+\)/g)].map(([, code]) => (
     Number(code)));
   expect('the opcodes', [...codes, 0x00].sort((a, b) => a - b),

@@ -1,5 +1,5 @@
 // A trial, not proved: judges programs, each by its file and that of its vector ROM.
-use dvg_game_check::judge;
+use dvg_game_check::{Verdict, all_broken, judge};
 use dvg_mem::Rom;
 use plain_std::alloc::Global;
 use std::time::Instant;
@@ -15,8 +15,14 @@ fn main() {
         }
         let began = Instant::now();
         let vectors = Rom::new(Global, &shapes).unwrap();
-        let verdict = judge(Global, &rom, &vectors).unwrap();
+        let judged = judge(Global, &rom, &vectors).unwrap();
         let all = began.elapsed();
-        println!("{} {verdict:X?} {} us", pair[0], all.as_micros());
+        println!("{} {:X?} {} us", pair[0], judged.verdict, all.as_micros());
+        if matches!(judged.verdict, Verdict::Refused(_)) {
+            let broken = all_broken(Global, &rom, judged.notes.as_slice()).unwrap();
+            for one in broken.as_slice() {
+                println!("  {:04X} {:?}", one.at, one.rule);
+            }
+        }
     }
 }

@@ -1,5 +1,5 @@
 use Rattle.std.proofs.Common.{◌+◌, ◌∙◌, ap, sym}
-use Rattle.dvg_game_content.specs.Brings.{with_bits}
+use Rattle.dvg_game_words.specs.Brings.{with_bits}
 use Rattle.dvg_game_check.specs.Brought.{known_meant}
 use Rattle.dvg_game_check.proofs.Knows.{masked_twice}
 use Rattle.dvg_game_check.proofs.known.with_bits.Goals as goal

@@ -4,7 +4,7 @@ use Rattle.std.proofs.lemmas.Option.{get_or_from_slice_get}
 use Rattle.dvg_mem.specs.declared.half.Half.TheVariants.{H0}
 use Rattle.dvg_frame.specs.Layout.{laid}
 use Rattle.dvg_frame.proofs.Bytes.{bytes-length}
-use Rattle.dvg_calls_6502.specs.Tables.{table_of}
+use Rattle.dvg_game_words.specs.Tables.{table_of}
 use Rattle.dvg_game_check.proofs.offered.bytes_there.Goals as goal
 
 pub loop-k-preserved : goal.loop-k-preserved

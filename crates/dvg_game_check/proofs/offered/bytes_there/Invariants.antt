@@ -1,5 +1,5 @@
 use Rattle.std.proofs.Common.{◌≡◌, ℕ, ◌+◌, ◌<◌, get_or}
-use Rattle.dvg_calls_6502.specs.Tables.{table_of}
+use Rattle.dvg_game_words.specs.Tables.{table_of}
 use Rattle.dvg_game_check.specs.Rules.{HasBytes}
 use Rattle.dvg_game_check.proofs.offered.bytes_there.Given as goal
 

@@ -2,7 +2,7 @@ use Rattle.std.proofs.Common.{◌≡◌, ◌+◌, ◌*◌, ap, sym, ◌∙◌, a
 use Rattle.dvg_mem.specs.declared.half.Half.TheVariants.{H0}
 use Rattle.dvg_frame.specs.Layout.{laid}
 use Rattle.dvg_frame.proofs.Bytes.{bytes-length}
-use Rattle.dvg_calls_6502.specs.Tables.{table_of}
+use Rattle.dvg_game_words.specs.Tables.{table_of}
 use Rattle.dvg_game_check.specs.Offered.{AreThere, IsAccepted}
 use Rattle.dvg_game_check.proofs.offered.is_laid.Goals as goal
 

@@ -1,7 +1,7 @@
 use Rattle.std.proofs.Common.{◌<◌, get_or, sym, ◌∙◌, ap, arith, inl, inr, subst}
 use Rattle.std.proofs.Math.Nat.{eq-or-lt_of_le}
 use Rattle.std.proofs.lemmas.Option.{get_or_from_slice_get}
-use Rattle.dvg_calls_6502.specs.Tables.{NamesRom}
+use Rattle.dvg_game_words.specs.Tables.{NamesRom}
 use Rattle.dvg_game_check.proofs.offered.names_rom.Goals as goal
 
 pub loop-i-preserved : goal.loop-i-preserved

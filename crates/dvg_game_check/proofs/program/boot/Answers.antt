@@ -1,7 +1,7 @@
 use Rattle.std.proofs.Common.{◌≡◌, ◌+◌, ◌-◌, suc, ℕ, sym, ◌∙◌, ap, arith, inl, inr, true}
-use Rattle.dvg_game_rules.specs.Kinds.{kind_of}
-use Rattle.dvg_game_rules.specs.Checker.{bytes_of, is_code}
-use Rattle.dvg_game_rules.specs.Machine.{word_at, reset_vector}
+use Rattle.dvg_game_words.specs.Kinds.{kind_of}
+use Rattle.dvg_game_words.specs.Checker.{bytes_of, is_code}
+use Rattle.dvg_game_words.specs.Machine.{word_at, reset_vector}
 use Rattle.dvg_game_check.specs.Meant.{kind_meant}
 use Rattle.dvg_game_check.specs.Program.{way}
 use Rattle.dvg_game_check.proofs.Bytes.{boots_by_bytes}

@@ -1,6 +1,6 @@
 use Rattle.std.proofs.Common.{◌≡◌, ◌-◌, ◌<◌, ℕ}
 use Rattle.dvg_game_check.specs.Program.{way}
-use Rattle.dvg_game_rules.specs.Machine.{word_at, reset_vector}
+use Rattle.dvg_game_words.specs.Machine.{word_at, reset_vector}
 use Rattle.dvg_game_check.specs.Rules.{HasBytes}
 use Rattle.dvg_game_check.proofs.program.boot.Given as goal
 

@@ -1,5 +1,5 @@
 use Rattle.std.proofs.Common.{◌≡◌, ◌+◌, ◌-◌, false, sym, ◌∙◌, ap, arith}
-use Rattle.dvg_game_rules.specs.Checker.{all_under, fine_at, first, interrupts, noted, places}
+use Rattle.dvg_game_words.specs.Checker.{all_under, fine_at, first, interrupts, noted, places}
 use Rattle.dvg_game_check.specs.Rules.{notes_in}
 use Rattle.dvg_game_check.proofs.Accepted.{accepted, no_driver, no_nmi, no_other, no_way, not_fine}
 use Rattle.dvg_game_check.proofs.Loops.{all_under_fails, places_are}

@@ -1,5 +1,5 @@
 use Rattle.std.proofs.Common.{◌+◌, sym, ◌∙◌, arith}
-use Rattle.dvg_game_rules.specs.Checker.{fine_at, first, noted, places}
+use Rattle.dvg_game_words.specs.Checker.{fine_at, first, noted, places}
 use Rattle.dvg_game_check.specs.Rules.{notes_in}
 use Rattle.dvg_game_check.proofs.Loops.{all_under_more, all_under_full, places_are}
 use Rattle.dvg_game_check.proofs.program.first_bad.Goals as goal

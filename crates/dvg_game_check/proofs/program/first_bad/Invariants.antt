@@ -1,5 +1,5 @@
 use Rattle.std.proofs.Common.{◌≡◌, ◌+◌, ℕ, true}
-use Rattle.dvg_game_rules.specs.Checker.{all_under, fine_at, first, noted}
+use Rattle.dvg_game_words.specs.Checker.{all_under, fine_at, first, noted}
 use Rattle.dvg_game_check.specs.Rules.{HasBytes, notes_in}
 use Rattle.dvg_game_check.proofs.program.first_bad.Given as goal
 

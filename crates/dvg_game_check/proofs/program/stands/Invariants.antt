@@ -1,5 +1,5 @@
 use Rattle.std.proofs.Common.{◌≡◌, ◌+◌, ℕ, drop}
-use Rattle.dvg_game_rules.specs.Checker.{stand_at}
+use Rattle.dvg_game_words.specs.Checker.{stand_at}
 use Rattle.dvg_game_check.specs.Rules.{HasBytes}
 use Rattle.dvg_game_check.proofs.program.stands.Given as goal
 

@@ -1,5 +1,5 @@
 use Rattle.std.proofs.Common.{◌≡◌, ◌+◌, ◌%◌, true}
-use Rattle.dvg_game_rules.specs.Checker.{all_under}
+use Rattle.dvg_game_words.specs.Checker.{all_under}
 use Rattle.dvg_game_check.specs.Rules.{test_meant}
 use Rattle.dvg_game_check.proofs.reach.all_pass.Given as goal
 

@@ -1,5 +1,5 @@
 use Rattle.std.proofs.Common.{◌∙◌, ap}
-use Rattle.dvg_game_rules.specs.Kinds.{kind_of}
+use Rattle.dvg_game_words.specs.Kinds.{kind_of}
 use Rattle.dvg_game_check.specs.Meant.{kind_meant}
 use Rattle.dvg_game_check.specs.Rules.{notes_in, note_meant}
 use Rattle.dvg_game_check.proofs.Bytes.{fine_by_bytes}

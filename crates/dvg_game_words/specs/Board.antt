@@ -1,8 +1,8 @@
 -- The board: the driver's bytes in the zero page, its code, and the hardware, as driver.s and dvg.inc place them.
 use Rattle.std.specs.Prelude.{◌≡◌, ℕ, ◌+◌, ◌*◌, ◌<◌, ◌&&◌, ◌||◌, Bool, not, nat_eq, nat_le, nat_lt, List, [], ◌∷◌}
 use Rattle.std.specs.Prelude.{length, slice_index, if◌then◌else◌}
-use Rattle.dvg_calls_6502.specs.Processor.{Access, Reads, Writes, flag_place}
-use Rattle.dvg_calls_6502.specs.Code.{code, first}
+use Rattle.dvg_game_words.specs.Processor.{Access, Reads, Writes, flag_place}
+use Rattle.dvg_game_words.specs.Code.{code, first}
 
 -- dvg_phase: 0 after a reset, then as dvg.inc names them
 abbrev pub phase_in : (ℕ → ℕ) → ℕ

@@ -1,8 +1,8 @@
 -- The kinds of a 6502's instructions: what each does to PC, S, A, X, Y and memory, whatever it computes and reads.
 -- Those that may go anywhere, or write anywhere, are Wild.
 use Rattle.std.specs.Prelude.{ℕ}
-use Rattle.dvg_calls_6502.specs.Processor
-use Rattle.dvg_calls_6502.specs.Processor.{Instr, Register, A, X, Y, decoded, opcodes}
+use Rattle.dvg_game_words.specs.Processor
+use Rattle.dvg_game_words.specs.Processor.{Instr, Register, A, X, Y, decoded, opcodes}
 
 -- which byte is read or written: zp, zp,X or zp,Y, abs, abs,X or abs,Y
 pub data Place : Type 0 where

@@ -1,14 +1,14 @@
 -- The checker: it looks at each address by itself, with a note of what is to hold there. Nobody has to trust the notes.
 use Rattle.std.specs.Prelude.{ℕ, zero, suc, ◌+◌, ◌-◌, ◌%◌, ◌&&◌, ◌||◌, Bool, true, false, not, nat_eq, nat_le}
 use Rattle.std.specs.Prelude.{nat_lt, if◌then◌else◌, Option, None, Some, List, [], ◌∷◌}
-use Rattle.dvg_calls_6502.specs.Code.{code, dvg_reset, dvg_run, dvg_ticks, dvg_tick, dvg_offer, dvg_open, dvg_redraw}
-use Rattle.dvg_calls_6502.specs.Code.{dvg_put, dvg_labs, dvg_pair, dvg_close, dvg_vector}
-use Rattle.dvg_calls_6502.specs.Processor.{Register, A, X, Y, target}
-use Rattle.dvg_game_rules.specs.Kinds.{Sets, Nothing, Only, Kind, Quiet, Reads, Transfer, Stores, Push}
-use Rattle.dvg_game_rules.specs.Kinds.{PushFlags, Pull, PullFlags, Branch, Jump, Call, Return, Finish, Wild, kind_of}
-use Rattle.dvg_game_rules.specs.Kinds.{Place, ZeroPage, ZeroPageIndexed, Absolute, AbsoluteIndexed, size}
-use Rattle.dvg_game_rules.specs.Machine.{blank_after, word_at, is_operand, is_own, is_driver, is_reset, nmi_vector}
-use Rattle.dvg_game_rules.specs.Machine.{reset_vector}
+use Rattle.dvg_game_words.specs.Code.{code, dvg_reset, dvg_run, dvg_ticks, dvg_tick, dvg_offer, dvg_open, dvg_redraw}
+use Rattle.dvg_game_words.specs.Code.{dvg_put, dvg_labs, dvg_pair, dvg_close, dvg_vector}
+use Rattle.dvg_game_words.specs.Processor.{Register, A, X, Y, target}
+use Rattle.dvg_game_words.specs.Kinds.{Sets, Nothing, Only, Kind, Quiet, Reads, Transfer, Stores, Push}
+use Rattle.dvg_game_words.specs.Kinds.{PushFlags, Pull, PullFlags, Branch, Jump, Call, Return, Finish, Wild, kind_of}
+use Rattle.dvg_game_words.specs.Kinds.{Place, ZeroPage, ZeroPageIndexed, Absolute, AbsoluteIndexed, size}
+use Rattle.dvg_game_words.specs.Machine.{blank_after, word_at, is_operand, is_own, is_driver, is_reset, nmi_vector}
+use Rattle.dvg_game_words.specs.Machine.{reset_vector}
 
 -- code of the program, of a subroutine, and of the NMI
 pub data Level : Type 0 where

@@ -6,12 +6,12 @@ use Rattle.std.specs.Prelude.{false, true, ◌≡◌, ℕ, suc, ◌+◌, ◌-◌
 use Rattle.std.specs.Prelude.{nat_eq}
 use Rattle.std.specs.Prelude.{nat_le}
 use Rattle.std.specs.Prelude.{nat_lt, if◌then◌else◌, Option, None, Some, List, [], ◌∷◌}
-use Rattle.dvg_calls_6502.specs.Code.{dvg_reset, dvg_open, dvg_labs}
-use Rattle.dvg_calls_6502.specs.Board.{is_readable}
-use Rattle.dvg_calls_6502.specs.Processor.{Register, A, X, Y, put, stack_place, target}
-use Rattle.dvg_game_rules.specs.Kinds.{Sets, Nothing, Only, Kind, Quiet, Reads, Transfer, Stores, Push}
-use Rattle.dvg_game_rules.specs.Kinds.{PushFlags, Pull, PullFlags, Branch, Jump, Call, Return, Finish, Wild, kind_of}
-use Rattle.dvg_game_rules.specs.Kinds.{Place, ZeroPage, ZeroPageIndexed, Absolute, AbsoluteIndexed, size}
+use Rattle.dvg_game_words.specs.Code.{dvg_reset, dvg_open, dvg_labs}
+use Rattle.dvg_game_words.specs.Board.{is_readable}
+use Rattle.dvg_game_words.specs.Processor.{Register, A, X, Y, put, stack_place, target}
+use Rattle.dvg_game_words.specs.Kinds.{Sets, Nothing, Only, Kind, Quiet, Reads, Transfer, Stores, Push}
+use Rattle.dvg_game_words.specs.Kinds.{PushFlags, Pull, PullFlags, Branch, Jump, Call, Return, Finish, Wild, kind_of}
+use Rattle.dvg_game_words.specs.Kinds.{Place, ZeroPage, ZeroPageIndexed, Absolute, AbsoluteIndexed, size}
 
 -- where the ROM has the addresses of the NMI's routine and of the reset's
 abbrev pub nmi_vector : ℕ
