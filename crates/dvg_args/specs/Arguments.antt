@@ -12,7 +12,7 @@ use Rattle.dvg_job.specs.declared.form.LayForm.{LayForm}
 use Rattle.dvg_job.specs.declared.form.LogRule.{LogRule}
 use Rattle.dvg_job.specs.declared.task.Job.{Job}
 use Rattle.dvg_job.specs.declared.task.Job.TheVariants.{List as list_job, ListAt, Rom, Picture, PictureSvg, Check}
-use Rattle.dvg_job.specs.declared.task.Job.TheVariants.{Play, PlaySvg, Torn, Render, RenderCheck, Lay, Explain}
+use Rattle.dvg_job.specs.declared.task.Job.TheVariants.{Play, PlaySvg, Torn, Render, RenderCheck, Lay, Explain, Game}
 
 -- a subcommand with no option of its own
 abbrev pub plain : Text → Shape
@@ -72,19 +72,23 @@ lay_app =
     let with_rom = with_flag (with_flag with_half (codes "table")) (codes "rom") in
     with_flag (with_flag with_rom (codes "equates")) (codes "draft")
 
+-- the subcommand `game`: with the notes
+abbrev pub game_app : App
+game_app = with_flag (new_app (codes "game")) (codes "notes")
+
 -- the program without its subcommands, of which it requires one; it has a version (for a private contract)
 abbrev pub program_app : App
 program_app = record (new_app (codes "dvg")) {
   top = record (plain (codes "dvg")) { subcommand_required = true; has_version = true };
 }
 
--- the program's command, which requires one of nine subcommands and has a version; clap adds `help` and the options
+-- the program's command, which requires one of ten subcommands and has a version; clap adds `help` and the options
 -- `--help` and `--version`
 unfoldable pub dvg_app : App
 dvg_app = record {
   top = record (plain (codes "dvg")) { is_leaf = false; subcommand_required = true; has_version = true };
   subs = list_app.top ∷ plain (codes "rom") ∷ picture_app.top ∷ check_app.top ∷ play_app.top ∷ torn_app.top
-      ∷ render_app.top ∷ lay_app.top ∷ plain (codes "explain") ∷ [];
+      ∷ render_app.top ∷ lay_app.top ∷ plain (codes "explain") ∷ game_app.top ∷ [];
 }
 
 -- how the options of the subcommand that was matched are refused
@@ -130,10 +134,13 @@ IsJob RenderCheck met =
 IsJob (Lay form) met =
     option_map {U = Text × Option LayForm} (λ p. (p.0, form_of p.1)) met ≡ Some (codes "lay", Some form)
 IsJob Explain met = option_map (λ p. p.0) met ≡ Some (codes "explain")
+IsJob (Game notes) met =
+    option_map {U = Text × Bool} (λ p. (p.0, sets (codes "notes") p.1)) met ≡ Some (codes "game", notes)
 
 -- the name of a subcommand whose options can't be refused (for a private contract)
 abbrev pub IsPlainName : Text → Type 0
-IsPlainName name = (name ≡ codes "rom") ⊎ ((name ≡ codes "check") ⊎ (name ≡ codes "explain"))
+IsPlainName name = (name ≡ codes "rom")
+    ⊎ ((name ≡ codes "check") ⊎ ((name ≡ codes "explain") ⊎ (name ≡ codes "game")))
 
 -- the name of a subcommand that is a job (for a private contract)
 abbrev pub IsJobName : Text → Type 0

@@ -9,7 +9,7 @@ use Rattle.dvg_args.specs.Options.{gives, sets}
 use Rattle.dvg_args.specs.Arguments.{IsJob, TakesArguments, arguments_fault, dvg_app, options_fault}
 use Rattle.dvg_job.specs.declared.task.Job.{Job}
 use Rattle.dvg_job.specs.declared.task.Job.TheVariants.{List as list_job, ListAt, Rom, Picture, PictureSvg, Check}
-use Rattle.dvg_job.specs.declared.task.Job.TheVariants.{Play, PlaySvg, Torn, Render, RenderCheck, Lay, Explain}
+use Rattle.dvg_job.specs.declared.task.Job.TheVariants.{Play, PlaySvg, Torn, Render, RenderCheck, Lay, Explain, Game}
 use Rattle.dvg_job.specs.declared.form.LogRule.TheVariants.{Halves, Moments, AllMoments}
 use Rattle.dvg_job.specs.declared.form.TheConstants.PictureForm.{PLAIN}
 use Rattle.dvg_job.specs.declared.form.Show.{Show}
@@ -63,6 +63,8 @@ TextJobArguments = AskFor (codes "list" ∷ []) list_job
     × AskFor (codes "torn" ∷ codes "--moments" ∷ codes "--base=fFfF" ∷ codes "--all" ∷ [])
     (Torn AllMoments (Some 0xFFFF))
     × AskFor (codes "explain" ∷ []) Explain
+    × AskFor (codes "game" ∷ []) (Game false)
+    × AskFor (codes "game" ∷ codes "--notes" ∷ []) (Game true)
 
 -- the arguments of each job that reads a sketch
 abbrev pub SketchJobArguments : Type 0
@@ -103,6 +105,7 @@ OtherArguments = FailAs (
     ∷ (codes "check" ∷ codes "--all" ∷ [], UnknownArgument ∷ [])
     ∷ (codes "torn" ∷ codes "--svg" ∷ [], UnknownArgument ∷ [])
     ∷ (codes "explain" ∷ codes "--all" ∷ [], UnknownArgument ∷ [])
+    ∷ (codes "game" ∷ codes "--rom" ∷ [], UnknownArgument ∷ [])
     ∷ (codes "play" ∷ codes "--all" ∷ codes "--all" ∷ [], ArgumentConflict ∷ [])
     ∷ (codes "list" ∷ codes "list" ∷ [], UnknownArgument ∷ []) ∷ [])
 

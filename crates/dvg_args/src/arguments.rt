@@ -33,6 +33,10 @@ fn plain_job(name: &str, found: &ArgMatches) -> Option<Job>
         })
     } else if name == "explain" {
         Some(Job::Explain)
+    } else if name == "game" {
+        Some(Job::Game {
+            notes: is_set(found, "notes"),
+        })
     } else {
         None
     }

@@ -1,11 +1,11 @@
 //! The program's command, as `clap` reads it. A subcommand whose options may be refused stands in a
 //! file with what its options ask for. `render`, `lay`, `explain` and `--svg` are for authors of
-//! pictures; there is no `draw`.
+//! pictures, and `game` for those of games; there is no `draw`.
 ghost use Rattle.std.specs.Prelude.{◌≡◌, IfOk, codes, false};
 ghost use Rattle.clap.specs.Words.{app_of, new_app, rule_of, with_rule, with_subcommand};
 ghost use Rattle.clap.specs.declared.builder.command.Command.TheViews.{out-Command as fields_of};
 ghost use Rattle.dvg_args.specs.Arguments as spec;
-ghost use Rattle.dvg_args.specs.Arguments.{check_app, dvg_app, flag, program_app, valued};
+ghost use Rattle.dvg_args.specs.Arguments.{check_app, dvg_app, flag, game_app, program_app, valued};
 
 use crate::drawing::{picture_command, play_command, render_command};
 use crate::help;
@@ -102,6 +102,17 @@ fn check_command<'a>(alloc: Global) -> Result<Command<'a>, AllocError>
     with_flag(alloc, check, "bound", bound)
 }
 
+// Returns the subcommand `game`.
+fn game_command<'a>(alloc: Global) -> Result<Command<'a>, AllocError>
+    ensures app { IfOk result (λ c. app_of c ≡ game_app) }
+    ensures local { IfOk result (λ c. (fields_of c).has_globals ≡ false) }
+{
+    let about = "Say whether a run of a game's bytes may tear a picture";
+    let game = helped(alloc, "game", about, help::GAME_USAGE, help::GAME);
+    let notes = "Also tell what was noted of each instruction";
+    with_flag(alloc, game, "notes", notes)
+}
+
 // Returns the program's command without its subcommands.
 fn program<'a>(alloc: Global) -> Command<'a>
     ensures app { app_of result ≡ program_app }
@@ -143,5 +154,6 @@ pub(crate) fn command<'a>(alloc: Global) -> Result<Command<'a>, AllocError>
     let about = "Say what an input is, what is wrong with it, and what to do";
     let explain_usage = "dvg explain < INPUT";
     let explain = helped(alloc, "explain", about, explain_usage, help::EXPLAIN);
-    with_part(with_lay, explain)
+    let with_explain = with_part(with_lay, explain)?;
+    with_part(with_explain, game_command(alloc)?)
 }

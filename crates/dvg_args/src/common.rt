@@ -42,6 +42,9 @@ fn bare_text_job(name: &str) -> Option<Job>
     if name == "explain" {
         return Some(Job::Explain);
     }
+    if name == "game" {
+        return Some(Job::Game { notes: false });
+    }
     None
 }
 
@@ -178,6 +181,9 @@ fn flag_job(name: &str, flag: &str) -> Option<Job>
             rule: LogRule::Moments,
             base: None,
         });
+    }
+    if name == "game" && flag == "--notes" {
+        return Some(Job::Game { notes: true });
     }
     None
 }

@@ -17,8 +17,9 @@ Exit status:
    0  done, or a help text or the version that was asked for
    1  a fault of the input, or the answer is no: an invalid draft or frame, a dump
       that draws no picture, a log with a torn picture, one that contradicts
-      itself, or one that has nothing to judge
+      itself, or one that has nothing to judge; a game that is refused
    2  a failing read or write, or out of memory
+   3  a game of which not all that it offers and puts is seen
   64  arguments that ask for nothing the program can do: a file is no argument,
       it is read by `<`
 
@@ -445,3 +446,22 @@ Example:
   do: end with halt, return or a jump
   fault 5 runs off 1
   kind: draft, something is wrong";
+
+/// How `game` is called.
+pub(crate) const GAME_USAGE: &str = "dvg game [--notes] < GAME";
+
+/// The input and output of `game`.
+pub(crate) const GAME: &str = "Standard input: a game for the board of Asteroids, 8,192 bytes: the 2,048 of its
+vector ROM, and then the 6,144 of its program, from 6800 to 7FFF.
+
+Standard output: one of three verdicts.
+  no run of these bytes tears a picture             status 0
+  refused: and a line for each instruction that breaks a rule, with its address,
+  the rule, and what to do, the causes first        status 1
+  keeps to the rules, but not all that it offers and puts is seen   status 3
+With `--notes` the notes of the program follow, a line for each instruction.
+
+Faults: `game size N` for another number of bytes.
+
+Example:
+  $ cat build/rom build/game.program | dvg game";

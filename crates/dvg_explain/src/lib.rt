@@ -25,7 +25,6 @@ mod raw;
 mod remarks;
 mod sketch_line;
 mod telling;
-mod text;
 mod unread_log;
 
 pub use engine::explain;

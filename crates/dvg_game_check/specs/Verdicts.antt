@@ -26,6 +26,6 @@ Says bytes R notes ways tables words (Unseen start why) =
     IsAccepted bytes notes start × IsUnseen bytes notes ways tables words start why
 Says bytes R notes ways tables words (Refused why) = IsRefused bytes notes × IsWhy bytes notes why
 
-abbrev pub Means : (bytes R : List ℕ) → Judged → Type 0
+abbrev pub Means : {A : Type 0} → (bytes R : List ℕ) → Judged A → Type 0
 Means bytes R judged =
     Says bytes R judged.notes.items judged.ways.items judged.tables.items judged.words.items judged.verdict

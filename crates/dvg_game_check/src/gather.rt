@@ -8,7 +8,7 @@ use crate::known::{FAR, contains, known_at, value};
 use crate::maker::{byte_or_zero, filled, number_of, step_at, word_or_zero};
 use crate::note::Note;
 use crate::rules::BYTES;
-use std::alloc::{AllocError, Global};
+use std::alloc::{AllocError, Allocator};
 
 /// More tables, or more words, than any program has.
 const MOST: usize = 4096;
@@ -48,12 +48,12 @@ fn brings(rom: &[u8], at: u32) -> bool
 }
 
 // Returns from where each place is come to.
-fn befores(
-    alloc: Global,
+fn befores<A: Allocator>(
+    alloc: A,
     rom: &[u8],
     notes: &[Option<Note>],
     start: u32,
-) -> Result<Vec<Before>, AllocError> {
+) -> Result<Vec<Before, A>, AllocError> {
     let none = Before {
         count: 0,
         size: 0,
@@ -88,16 +88,16 @@ fn befores(
 
 /// Returns how many bytes the instruction has from which alone a place is come to, for the places
 /// on straight ways to calls that bring something, and else 0.
-pub fn ways(
-    alloc: Global,
+pub fn ways<A: Allocator + Copy>(
+    alloc: A,
     rom: &[u8],
     notes: &[Option<Note>],
     start: u32,
-) -> Result<Vec<u8>, AllocError>
+) -> Result<Vec<u8, A>, AllocError>
     ensures { IfOk result (λ ways. length ways.items ≡ PLACES) }
 {
     let places = befores(alloc, rom, notes, start)?;
-    let mut found: Vec<u8> = filled(alloc, 0)?;
+    let mut found: Vec<u8, A> = filled(alloc, 0)?;
     for i in 0..PLACES {
         let first = FIRST + i;
         if is_noted(notes, first) && brings(rom, first) {
@@ -126,13 +126,13 @@ pub fn ways(
 }
 
 /// Returns the words that A and X may be at the program's calls of a routine.
-pub fn brought_to(
-    alloc: Global,
+pub fn brought_to<A: Allocator>(
+    alloc: A,
     rom: &[u8],
     notes: &[Option<Note>],
     ways: &[u8],
     entry: u16,
-) -> Result<Vec<u16>, AllocError>
+) -> Result<Vec<u16, A>, AllocError>
     requires bytes { length rom.now ≡ BYTES }
     requires ways { length ways.now ≡ PLACES }
 {

@@ -27,22 +27,22 @@ pub enum Verdict {
 
 /// What is said of a program, and of what: nobody has to trust how these were made.
 #[derive(Drop)]
-pub struct Judged {
+pub struct Judged<A: Allocator = Global> {
     pub verdict: Verdict,
     /// A note for each place from `FIRST` on, if code is there.
-    pub notes: Vec<Option<Note>>,
+    pub notes: Vec<Option<Note>, A>,
     /// For each place, how many bytes the instruction has from which alone it is come to, or 0.
     /// There are none where the program is refused.
-    pub ways: Vec<u8>,
+    pub ways: Vec<u8, A>,
     /// Where the tables are that it offers, and the words that it puts.
-    pub tables: Vec<u16>,
-    pub words: Vec<u16>,
+    pub tables: Vec<u16, A>,
+    pub words: Vec<u16, A>,
 }
 
 // Returns what is to be said of a program that is accepted with these notes.
-fn say<A: Allocator>(
+fn say<B: Allocator>(
     rom: &[u8],
-    vectors: &Rom<A>,
+    vectors: &Rom<B>,
     notes: &[Option<Note>],
     ways: &[u8],
     tables: &[u16],
@@ -71,11 +71,11 @@ fn say<A: Allocator>(
 }
 
 /// Returns what is to be said of a program, with the vector ROM of its shapes.
-pub fn judge<A: Allocator>(
-    alloc: Global,
+pub fn judge<A: Allocator + Copy, B: Allocator>(
+    alloc: A,
     rom: &[u8],
-    vectors: &Rom<A>,
-) -> Result<Judged, AllocError>
+    vectors: &Rom<B>,
+) -> Result<Judged<A>, AllocError>
     requires { length rom.now ≡ BYTES }
     ensures { IfOk result (λ judged. Means rom.now vectors.now judged) }
 {

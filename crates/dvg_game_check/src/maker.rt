@@ -8,7 +8,7 @@ use crate::note::{Held, Level, Note, SLOTS, Slot};
 use crate::reach::{Test, reached};
 use crate::rules::{UNCHANGED, blank_after, is_driver};
 use arrayvec::ArrayVec;
-use std::alloc::{AllocError, Global};
+use std::alloc::{AllocError, Allocator};
 
 /// More room, or more instructions of the NMI, than any may have.
 const CAP: u16 = 900;
@@ -204,9 +204,9 @@ fn put_end(ends: &mut [bool], at: u32) {
 }
 
 // A way leads to a place, with this known.
-fn go(
+fn go<A: Allocator>(
     states: &mut [Option<State>],
-    work: &mut Vec<u32>,
+    work: &mut Vec<u32, A>,
     at: u32,
     new: State,
 ) -> Result<(), AllocError> {
@@ -242,11 +242,11 @@ fn go(
 }
 
 // Follows an instruction.
-fn follow(
+fn follow<A: Allocator>(
     rom: &[u8],
     states: &mut [Option<State>],
     ends: &mut [bool],
-    work: &mut Vec<u32>,
+    work: &mut Vec<u32, A>,
     at: u32,
 ) -> Result<(), AllocError>
     requires { at < 65536 }
@@ -327,7 +327,7 @@ fn count_of(ends: &[bool]) -> u32 {
     count
 }
 
-pub fn filled<T: Copy>(alloc: Global, value: T) -> Result<Vec<T>, AllocError> {
+pub fn filled<A: Allocator, T: Copy>(alloc: A, value: T) -> Result<Vec<T, A>, AllocError> {
     let mut new = Vec::new(alloc);
     for _ in 0..PLACES {
         new.push(value)?;
@@ -336,13 +336,13 @@ pub fn filled<T: Copy>(alloc: Global, value: T) -> Result<Vec<T>, AllocError> {
 }
 
 // All that is reached from the start and the NMI's vector, where these subroutines end blank.
-fn flow(
-    alloc: Global,
+fn flow<A: Allocator + Copy>(
+    alloc: A,
     rom: &[u8],
     start: u32,
     ends: &mut [bool],
-) -> Result<Vec<Option<State>>, AllocError> {
-    let mut states: Vec<Option<State>> = filled(alloc, None)?;
+) -> Result<Vec<Option<State>, A>, AllocError> {
+    let mut states: Vec<Option<State>, A> = filled(alloc, None)?;
     let mut work = Vec::new(alloc);
     let nmi = u32::from(word_or_zero(rom, 0x7FFA));
     let slots = [Slot::Any; SLOTS];
@@ -478,7 +478,11 @@ fn note_of(state: State, room: u16, fuel: u16, ends: bool) -> Note {
 }
 
 /// Returns notes of a program that starts at `start`.
-pub fn make(alloc: Global, rom: &[u8], start: u32) -> Result<Vec<Option<Note>>, AllocError>
+pub fn make<A: Allocator + Copy>(
+    alloc: A,
+    rom: &[u8],
+    start: u32,
+) -> Result<Vec<Option<Note>, A>, AllocError>
     ensures { IfOk result (λ notes. length notes.items ≡ PLACES) }
 {
     let mut ends = filled(alloc, false)?;
@@ -492,8 +496,8 @@ pub fn make(alloc: Global, rom: &[u8], start: u32) -> Result<Vec<Option<Note>>, 
         count = more;
         states = flow(alloc, rom, start, &mut ends)?;
     }
-    let mut room: Vec<u16> = filled(alloc, 0)?;
-    let mut fuel: Vec<u16> = filled(alloc, 0)?;
+    let mut room: Vec<u16, A> = filled(alloc, 0)?;
+    let mut fuel: Vec<u16, A> = filled(alloc, 0)?;
     for _ in 0..ROUNDS {
         if !recount(rom, &states, &mut room, &mut fuel) {
             break;

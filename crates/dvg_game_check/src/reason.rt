@@ -18,7 +18,7 @@ use crate::rules::{
     BYTES, UNCHANGED, blank_after, byte_at, ends_at, goes_on, is_driver, is_entry, still_awake,
     target, word_at,
 };
-use std::alloc::{AllocError, Global};
+use std::alloc::{AllocError, Allocator};
 
 /// What the note of a place asks of the instructions that lead there.
 #[derive(Clone, Copy, Debug, PartialEq, Eq)]
@@ -501,11 +501,11 @@ pub struct Broken {
 }
 
 /// Returns all places that aren't fine.
-pub fn all_broken(
-    alloc: Global,
+pub fn all_broken<A: Allocator>(
+    alloc: A,
     rom: &[u8],
     notes: &[Option<Note>],
-) -> Result<Vec<Broken>, AllocError>
+) -> Result<Vec<Broken, A>, AllocError>
     requires bytes { length rom.now ≡ BYTES }
     requires notes { length notes.now ≡ PLACES }
     ensures { IfOk result (λ all. AreBroken rom.now notes.now all.items) }

@@ -5,11 +5,13 @@
 mod engine;
 mod fault;
 mod strokes;
+mod text;
 mod transfer;
 mod watched;
 
 pub use engine::{Engine, serve};
 pub use fault::ToolFault;
 pub use strokes::{write_strokes, write_strokes_in};
+pub use text::Text;
 pub use transfer::{collect_words, read_up_to, write_lines, write_whole};
 pub use watched::{StreamFailed, Watched};

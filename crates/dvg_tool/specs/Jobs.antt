@@ -6,6 +6,8 @@ use Rattle.dvg_io.specs.Serving.{Meaning}
 use Rattle.dvg_io.specs.Watching.{TakesAtMost}
 use Rattle.dvg_io.specs.declared.fault.ToolFault.{ToolFault}
 use Rattle.dvg_explain.specs.Findings.{Explains}
+use Rattle.dvg_game.specs.Telling.{JudgesGame}
+use Rattle.dvg_game.specs.declared.engine.TheConstants.{GAME_BYTES}
 use Rattle.dvg_lay.specs.Checks.{ChecksSketch}
 use Rattle.dvg_lay.specs.DrawnSketches.{Draws}
 use Rattle.dvg_lay.specs.Sketches.{Lays}
@@ -20,11 +22,11 @@ use Rattle.dvg_tool.specs.Checks.{Checks, ChecksBound}
 use Rattle.dvg_tool.specs.Plays.{Plays, StopsBeforeShowing}
 use Rattle.dvg_tool.specs.PlaysSvg.{PlaysSvg}
 use Rattle.dvg_tool.specs.Reports.{Reports, of_bounded, of_explained, of_frames, of_log, of_made, of_moments}
-use Rattle.dvg_tool.specs.Reports.{of_outcome, of_undrawn, of_verdict, written}
+use Rattle.dvg_tool.specs.Reports.{of_outcome, of_told, of_undrawn, of_verdict, written}
 use Rattle.dvg_tool.specs.declared.outcome.Done.{Done}
 use Rattle.dvg_job.specs.declared.task.Job.{Job}
 use Rattle.dvg_job.specs.declared.task.Job.TheVariants.{List as list_job, ListAt, Rom, Picture, PictureSvg, Check}
-use Rattle.dvg_job.specs.declared.task.Job.TheVariants.{Play, PlaySvg, Torn, Render, RenderCheck, Lay, Explain}
+use Rattle.dvg_job.specs.declared.task.Job.TheVariants.{Play, PlaySvg, Torn, Render, RenderCheck, Lay, Explain, Game}
 use Rattle.dvg_job.specs.declared.form.LogRule.TheVariants.{Halves, Moments, AllMoments}
 use Rattle.dvg_read.specs.declared.draft_text.TheConstants.{MOST_TEXT_BYTES}
 use Rattle.dvg_tool.specs.declared.lists.TheConstants.{MOST_LIST_BYTES}
@@ -77,3 +79,4 @@ task_of {A} RenderCheck =
     served MOST_TEXT_BYTES ComesBeforeText (λ said. of_frames said.verdicts.items) (ChecksSketch {A = A})
 task_of {A} (Lay form) = served MOST_TEXT_BYTES ComesBeforeText of_made (Lays {A = A} form)
 task_of {A} Explain = served MOST_TEXT_BYTES ComesBeforeText of_explained (Explains {A = A})
+task_of {A} (Game notes) = served GAME_BYTES ComesBeforeText of_told (JudgesGame {A = A})

@@ -5,6 +5,9 @@ use Rattle.dvg_io.specs.Serving.{Meaning}
 use Rattle.dvg_dump.specs.declared.ending.Outcome.{Outcome}
 use Rattle.dvg_dump.specs.declared.ending.Outcome.TheVariants as outcomes
 use Rattle.dvg_explain.specs.declared.kind.Finding.{Finding}
+use Rattle.dvg_game.specs.declared.told.Told.{Told}
+use Rattle.dvg_game_check.specs.declared.judging.Verdict.{Verdict as GameVerdict}
+use Rattle.dvg_game_check.specs.declared.judging.Verdict.TheVariants as games
 use Rattle.dvg_blame.specs.declared.refusal.Refusal.{Refusal}
 use Rattle.dvg_lay.specs.declared.verdicts.FrameVerdict.{FrameVerdict}
 use Rattle.dvg_picture.specs.declared.undrawn.Undrawn.{Undrawn}
@@ -18,7 +21,7 @@ use Rattle.dvg_print.specs.declared.verdict.BoundedVerdict.TheVariants as bounde
 use Rattle.dvg_print.specs.declared.verdict.Verdict.{Verdict}
 use Rattle.dvg_print.specs.declared.verdict.Verdict.TheVariants as verdicts
 use Rattle.dvg_tool.specs.declared.outcome.Done.{Done}
-use Rattle.dvg_tool.specs.declared.outcome.Done.TheVariants.{Good, Bad, Undrawn as undrawn_by, Refused}
+use Rattle.dvg_tool.specs.declared.outcome.Done.TheVariants.{Good, Bad, Unseen, Undrawn as undrawn_by, Refused}
 
 -- of a text that was written
 abbrev pub written : {A V : Type 0} → V → Done A
@@ -66,6 +69,16 @@ of_made (Err refusal) = Refused refusal
 -- of what an input is found to be: nothing is to be wrong with it
 abbrev pub of_explained : {A : Type 0} → Finding A → Done A
 of_explained finding = if finding.is_good then Good else Bad
+
+-- of the verdict on a game
+abbrev pub of_game : {A : Type 0} → GameVerdict → Done A
+of_game (games.Keeps start) = Good
+of_game (games.Unseen start why) = Unseen
+of_game (games.Refused why) = Bad
+
+-- of what is told of a game
+abbrev pub of_told : {A : Type 0} → Told A → Done A
+of_told told = of_game told.verdict
 
 -- of frames before which this is reported of the others
 abbrev pub and_of : {A : Type 0} → BoundedVerdict → Done A → Done A

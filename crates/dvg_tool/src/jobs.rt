@@ -11,6 +11,7 @@ use crate::plays_svg::play_svg_in;
 use crate::reports::reported;
 use crate::roms::rom_text;
 use dvg_explain::explain;
+use dvg_game::game;
 use dvg_io::{ToolFault, Watched};
 use dvg_job::{Job, LogRule};
 use dvg_lay::{check_sketch, draw_sketch, lay_sketch};
@@ -79,5 +80,6 @@ pub fn perform<A: Allocator + Copy, R: Read, W: Write>(
         Job::RenderCheck => reported(check_sketch(alloc, reader, writer)),
         Job::Lay { form } => reported(lay_sketch(alloc, reader, writer, form)),
         Job::Explain => reported(explain(alloc, reader, writer)),
+        Job::Game { notes } => reported(game(alloc, reader, writer, notes)),
     }
 }

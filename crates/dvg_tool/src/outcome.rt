@@ -14,10 +14,12 @@ use std::io::Write;
 #[derive(Debug, PartialEq, Eq, Drop)]
 pub enum Done<A: Allocator = Global> {
     /// What was asked for was written, and what was asked about is good: the draft, each frame of
-    /// the sketch, the log, or the run over the dump, which drew a picture.
+    /// the sketch, the log, the game, or the run over the dump, which drew a picture.
     Good,
     /// What was asked about isn't good, and what was written says why.
     Bad,
+    /// A game keeps to the rules, but what was written says what of it isn't seen.
+    Unseen,
     /// The run over a dump drew no picture, for this reason. What it drew was written as SVG.
     Undrawn(Undrawn),
     /// A frame of a sketch is refused, and nothing was written.
@@ -44,8 +46,9 @@ pub fn finish<A: Allocator, W: Write>(
 /// - 0: the job is done.
 /// - 1: a fault of the text, or the answer is no: a draft that `check` refuses, also in a sketch, a
 ///   dump that draws no picture, a log with a torn picture, one that contradicts itself, or one
-///   that has nothing to judge.
+///   that has nothing to judge, a game that is refused.
 /// - 2: a stream or an allocation failed.
+/// - 3: a game keeps to the rules, but not all that it offers and puts is seen.
 ///
 /// Arguments that ask for no job are 64, which no engine returns.
 pub fn status<A: Allocator>(answer: &Result<Done<A>, ToolFault>) -> u8
@@ -53,6 +56,7 @@ pub fn status<A: Allocator>(answer: &Result<Done<A>, ToolFault>) -> u8
 {
     match answer {
         Ok(Done::Good) => 0,
+        Ok(Done::Unseen) => 3,
         Ok(Done::Bad | Done::Undrawn(_) | Done::Refused(_)) | Err(ToolFault::Text(_)) => 1,
         Err(ToolFault::Reader | ToolFault::Writer | ToolFault::Memory) => 2,
     }

@@ -1,6 +1,6 @@
 //! What a job reports of what its engine returns.
 ghost use Rattle.std.specs.Prelude.{◌≡◌};
-ghost use Rattle.dvg_tool.specs.Reports.{IsReported, of_bounded, of_explained, of_frames, of_log};
+ghost use Rattle.dvg_tool.specs.Reports.{IsReported, of_bounded, of_explained, of_frames, of_log, of_told};
 ghost use Rattle.dvg_tool.specs.Reports.{of_made};
 ghost use Rattle.dvg_tool.specs.Reports.{of_moments, of_outcome, of_undrawn, of_verdict, written};
 ghost use Rattle.dvg_tool.specs.declared.outcome.Done.{Done as HeldDone};
@@ -8,6 +8,8 @@ ghost use Rattle.dvg_tool.specs.declared.outcome.Done.{Done as HeldDone};
 use crate::outcome::Done;
 use dvg_blame::Refusal;
 use dvg_explain::Finding;
+use dvg_game::Told;
+use dvg_game_check::Verdict as GameVerdict;
 use dvg_io::ToolFault;
 use dvg_lay::Said;
 use dvg_logs::{LogFinding, LogVerdict, MomentVerdict};
@@ -130,6 +132,18 @@ impl<A: Allocator> Answer<A> for Finding<A> {
 
     fn done(self) -> Done<A> {
         if self.is_good { Done::Good } else { Done::Bad }
+    }
+}
+
+impl<A: Allocator> Answer<A> for Told<A> {
+    ghost reported = { of_told };
+
+    fn done(self) -> Done<A> {
+        match self.verdict {
+            GameVerdict::Keeps(_) => Done::Good,
+            GameVerdict::Unseen(_, _) => Done::Unseen,
+            GameVerdict::Refused(_) => Done::Bad,
+        }
     }
 }
 

@@ -39,6 +39,10 @@ fn plain_job(name: &str, found: &ArgMatches) -> Option<Job> {
         })
     } else if name == "explain" {
         Some(Job::Explain)
+    } else if name == "game" {
+        Some(Job::Game {
+            notes: is_set(found, "notes"),
+        })
     } else {
         None
     }
@@ -108,7 +112,7 @@ pub fn job<'a>(alloc: Global, arguments: &'a [&'a str]) -> Result<Job, Error> {
 mod command {
 //! The program's command, as `clap` reads it. A subcommand whose options may be refused stands in a
 //! file with what its options ask for. `render`, `lay`, `explain` and `--svg` are for authors of
-//! pictures; there is no `draw`.
+//! pictures, and `game` for those of games; there is no `draw`.
 use crate::drawing::{picture_command, play_command, render_command};
 use crate::help;
 use crate::laying::lay_command;
@@ -182,6 +186,14 @@ fn check_command<'a>(alloc: Global) -> Result<Command<'a>, AllocError> {
     with_flag(alloc, check, "bound", bound)
 }
 
+// Returns the subcommand `game`.
+fn game_command<'a>(alloc: Global) -> Result<Command<'a>, AllocError> {
+    let about = "Say whether a run of a game's bytes may tear a picture";
+    let game = helped(alloc, "game", about, help::GAME_USAGE, help::GAME);
+    let notes = "Also tell what was noted of each instruction";
+    with_flag(alloc, game, "notes", notes)
+}
+
 // Returns the program's command without its subcommands.
 fn program<'a>(alloc: Global) -> Command<'a> {
     let about = "List, check, draw and play display lists of the Digital Vector Generator (DVG)";
@@ -211,7 +223,8 @@ pub(crate) fn command<'a>(alloc: Global) -> Result<Command<'a>, AllocError> {
     let about = "Say what an input is, what is wrong with it, and what to do";
     let explain_usage = "dvg explain < INPUT";
     let explain = helped(alloc, "explain", about, explain_usage, help::EXPLAIN);
-    with_part(with_lay, explain)
+    let with_explain = with_part(with_lay, explain)?;
+    with_part(with_explain, game_command(alloc)?)
 }
 }
 mod common {
@@ -251,6 +264,9 @@ fn bare_text_job(name: &str) -> Option<Job> {
     }
     if name == "explain" {
         return Some(Job::Explain);
+    }
+    if name == "game" {
+        return Some(Job::Game { notes: false });
     }
     None
 }
@@ -372,6 +388,9 @@ fn flag_job(name: &str, flag: &str) -> Option<Job> {
             rule: LogRule::Moments,
             base: None,
         });
+    }
+    if name == "game" && flag == "--notes" {
+        return Some(Job::Game { notes: true });
     }
     None
 }
@@ -535,8 +554,9 @@ Exit status:
    0  done, or a help text or the version that was asked for
    1  a fault of the input, or the answer is no: an invalid draft or frame, a dump
       that draws no picture, a log with a torn picture, one that contradicts
-      itself, or one that has nothing to judge
+      itself, or one that has nothing to judge; a game that is refused
    2  a failing read or write, or out of memory
+   3  a game of which not all that it offers and puts is seen
   64  arguments that ask for nothing the program can do: a file is no argument,
       it is read by `<`
 
@@ -963,6 +983,25 @@ Example:
   do: end with halt, return or a jump
   fault 5 runs off 1
   kind: draft, something is wrong";
+
+/// How `game` is called.
+pub(crate) const GAME_USAGE: &str = "dvg game [--notes] < GAME";
+
+/// The input and output of `game`.
+pub(crate) const GAME: &str = "Standard input: a game for the board of Asteroids, 8,192 bytes: the 2,048 of its
+vector ROM, and then the 6,144 of its program, from 6800 to 7FFF.
+
+Standard output: one of three verdicts.
+  no run of these bytes tears a picture             status 0
+  refused: and a line for each instruction that breaks a rule, with its address,
+  the rule, and what to do, the causes first        status 1
+  keeps to the rules, but not all that it offers and puts is seen   status 3
+With `--notes` the notes of the program follow, a line for each instruction.
+
+Faults: `game size N` for another number of bytes.
+
+Example:
+  $ cat build/rom build/game.program | dvg game";
 }
 mod laying {
 //! The subcommand `lay`, and what its options ask for. They exclude each other, which is this

@@ -296,9 +296,8 @@ use crate::choosing::kind_of;
 use crate::kind::{Finding, Kind};
 use crate::raw::cut_in;
 use crate::telling::{Examined, tell_long};
-use crate::text::Text;
 use dvg_code::OutOfMemory;
-use dvg_io::{Engine, StreamFailed, ToolFault, Watched, serve, write_lines, write_whole};
+use dvg_io::{Engine, StreamFailed, Text, ToolFault, Watched, serve, write_lines, write_whole};
 use dvg_logs::{LogFinding, LogVerdict};
 use dvg_read::{MOST_TEXT_BYTES, TextFault, Unread};
 use std::alloc::Allocator;
@@ -2594,10 +2593,10 @@ use crate::mistakes::{Mistake, mistake_in};
 use crate::raw::{MOST_WORD_BYTES, is_text};
 use crate::remarks::Remark;
 use crate::sketch_line::explain_line;
-use crate::text::Text;
 use crate::unread_log::{Logged, UNENDED, logged_for};
 use dvg_blame::{Blamed, Reason};
 use dvg_dump::{LARGE_DUMP_BYTES, SMALL_DUMP_BYTES};
+use dvg_io::Text;
 use dvg_logs::{LogFinding, LogVerdict};
 use dvg_mem::{LARGE_ROM_BYTES, MEMORY_BYTES};
 use dvg_print::Line;
@@ -3045,46 +3044,6 @@ fn tell_refused<A: Allocator>(
         write!(out, "do: {}\n", advice.cure)?;
     }
     write!(out, "{reason}\n")
-}
-}
-mod text {
-//! A text that is made in memory.
-use std::prelude::*;
-
-use std::alloc::Allocator;
-use std::fmt;
-
-/// A text that grows as it is written to. A write fails where memory is refused.
-pub(crate) struct Text<A: Allocator> {
-    bytes: Vec<u8, A>,
-}
-
-impl<A: Allocator> Text<A> {
-    /// Returns an empty text, whose memory comes from `alloc`.
-    pub(crate) fn new(alloc: A) -> Text<A> {
-        Text {
-            bytes: Vec::new(alloc),
-        }
-    }
-
-    /// Adds `bytes`. Fails where memory is refused.
-    pub(crate) fn add(&mut self, bytes: &[u8]) -> fmt::Result {
-        match self.bytes.extend_from_slice(bytes) {
-            Ok(()) => Ok(()),
-            Err(_) => Err(fmt::Error),
-        }
-    }
-
-    /// Returns the bytes of the text.
-    pub(crate) fn into_bytes(self) -> Vec<u8, A> {
-        self.bytes
-    }
-}
-
-impl<A: Allocator> fmt::Write for Text<A> {
-    fn write_str(&mut self, part: &str) -> fmt::Result {
-        self.add(part.as_bytes())
-    }
 }
 }
 mod unread_log {

@@ -222,7 +222,7 @@ use crate::kind::{Kind, kind_of};
 use crate::known::{FAR, contains, known_at, value};
 use crate::maker::{byte_or_zero, filled, number_of, step_at, word_or_zero};
 use crate::note::Note;
-use std::alloc::{AllocError, Global};
+use std::alloc::{AllocError, Allocator};
 
 /// More tables, or more words, than any program has.
 const MOST: usize = 4096;
@@ -260,12 +260,12 @@ fn brings(rom: &[u8], at: u32) -> bool {
 }
 
 // Returns from where each place is come to.
-fn befores(
-    alloc: Global,
+fn befores<A: Allocator>(
+    alloc: A,
     rom: &[u8],
     notes: &[Option<Note>],
     start: u32,
-) -> Result<Vec<Before>, AllocError> {
+) -> Result<Vec<Before, A>, AllocError> {
     let none = Before {
         count: 0,
         size: 0,
@@ -300,14 +300,14 @@ fn befores(
 
 /// Returns how many bytes the instruction has from which alone a place is come to, for the places
 /// on straight ways to calls that bring something, and else 0.
-pub fn ways(
-    alloc: Global,
+pub fn ways<A: Allocator + Copy>(
+    alloc: A,
     rom: &[u8],
     notes: &[Option<Note>],
     start: u32,
-) -> Result<Vec<u8>, AllocError> {
+) -> Result<Vec<u8, A>, AllocError> {
     let places = befores(alloc, rom, notes, start)?;
-    let mut found: Vec<u8> = filled(alloc, 0)?;
+    let mut found: Vec<u8, A> = filled(alloc, 0)?;
     for i in 0..PLACES {
         let first = FIRST + i;
         if is_noted(notes, first) && brings(rom, first) {
@@ -336,13 +336,13 @@ pub fn ways(
 }
 
 /// Returns the words that A and X may be at the program's calls of a routine.
-pub fn brought_to(
-    alloc: Global,
+pub fn brought_to<A: Allocator>(
+    alloc: A,
     rom: &[u8],
     notes: &[Option<Note>],
     ways: &[u8],
     entry: u16,
-) -> Result<Vec<u16>, AllocError> {
+) -> Result<Vec<u16, A>, AllocError> {
     let mut list = Vec::new(alloc);
     for i in 0..PLACES {
         let at = FIRST + i;
@@ -386,22 +386,22 @@ pub enum Verdict {
 }
 
 /// What is said of a program, and of what: nobody has to trust how these were made.
-pub struct Judged {
+pub struct Judged<A: Allocator = Global> {
     pub verdict: Verdict,
     /// A note for each place from `FIRST` on, if code is there.
-    pub notes: Vec<Option<Note>>,
+    pub notes: Vec<Option<Note>, A>,
     /// For each place, how many bytes the instruction has from which alone it is come to, or 0.
     /// There are none where the program is refused.
-    pub ways: Vec<u8>,
+    pub ways: Vec<u8, A>,
     /// Where the tables are that it offers, and the words that it puts.
-    pub tables: Vec<u16>,
-    pub words: Vec<u16>,
+    pub tables: Vec<u16, A>,
+    pub words: Vec<u16, A>,
 }
 
 // Returns what is to be said of a program that is accepted with these notes.
-fn say<A: Allocator>(
+fn say<B: Allocator>(
     rom: &[u8],
-    vectors: &Rom<A>,
+    vectors: &Rom<B>,
     notes: &[Option<Note>],
     ways: &[u8],
     tables: &[u16],
@@ -424,11 +424,11 @@ fn say<A: Allocator>(
 }
 
 /// Returns what is to be said of a program, with the vector ROM of its shapes.
-pub fn judge<A: Allocator>(
-    alloc: Global,
+pub fn judge<A: Allocator + Copy, B: Allocator>(
+    alloc: A,
     rom: &[u8],
-    vectors: &Rom<A>,
-) -> Result<Judged, AllocError> {
+    vectors: &Rom<B>,
+) -> Result<Judged<A>, AllocError> {
     let start = match boot(rom) {
         Ok(start) => start,
         Err(_) => 0,
@@ -986,7 +986,7 @@ use crate::note::{Held, Level, Note, SLOTS, Slot};
 use crate::reach::{Test, reached};
 use crate::rules::{UNCHANGED, blank_after, is_driver};
 use arrayvec::ArrayVec;
-use std::alloc::{AllocError, Global};
+use std::alloc::{AllocError, Allocator};
 
 /// More room, or more instructions of the NMI, than any may have.
 const CAP: u16 = 900;
@@ -1180,9 +1180,9 @@ fn put_end(ends: &mut [bool], at: u32) {
 }
 
 // A way leads to a place, with this known.
-fn go(
+fn go<A: Allocator>(
     states: &mut [Option<State>],
-    work: &mut Vec<u32>,
+    work: &mut Vec<u32, A>,
     at: u32,
     new: State,
 ) -> Result<(), AllocError> {
@@ -1218,11 +1218,11 @@ fn go(
 }
 
 // Follows an instruction.
-fn follow(
+fn follow<A: Allocator>(
     rom: &[u8],
     states: &mut [Option<State>],
     ends: &mut [bool],
-    work: &mut Vec<u32>,
+    work: &mut Vec<u32, A>,
     at: u32,
 ) -> Result<(), AllocError> {
     let Some(state) = state_at(states, at) else {
@@ -1301,7 +1301,7 @@ fn count_of(ends: &[bool]) -> u32 {
     count
 }
 
-pub fn filled<T: Copy>(alloc: Global, value: T) -> Result<Vec<T>, AllocError> {
+pub fn filled<A: Allocator, T: Copy>(alloc: A, value: T) -> Result<Vec<T, A>, AllocError> {
     let mut new = Vec::new(alloc);
     for _ in 0..PLACES {
         new.push(value)?;
@@ -1310,13 +1310,13 @@ pub fn filled<T: Copy>(alloc: Global, value: T) -> Result<Vec<T>, AllocError> {
 }
 
 // All that is reached from the start and the NMI's vector, where these subroutines end blank.
-fn flow(
-    alloc: Global,
+fn flow<A: Allocator + Copy>(
+    alloc: A,
     rom: &[u8],
     start: u32,
     ends: &mut [bool],
-) -> Result<Vec<Option<State>>, AllocError> {
-    let mut states: Vec<Option<State>> = filled(alloc, None)?;
+) -> Result<Vec<Option<State>, A>, AllocError> {
+    let mut states: Vec<Option<State>, A> = filled(alloc, None)?;
     let mut work = Vec::new(alloc);
     let nmi = u32::from(word_or_zero(rom, 0x7FFA));
     let slots = [Slot::Any; SLOTS];
@@ -1452,7 +1452,11 @@ fn note_of(state: State, room: u16, fuel: u16, ends: bool) -> Note {
 }
 
 /// Returns notes of a program that starts at `start`.
-pub fn make(alloc: Global, rom: &[u8], start: u32) -> Result<Vec<Option<Note>>, AllocError> {
+pub fn make<A: Allocator + Copy>(
+    alloc: A,
+    rom: &[u8],
+    start: u32,
+) -> Result<Vec<Option<Note>, A>, AllocError> {
     let mut ends = filled(alloc, false)?;
     let mut states = flow(alloc, rom, start, &mut ends)?;
     let mut count = 0;
@@ -1464,8 +1468,8 @@ pub fn make(alloc: Global, rom: &[u8], start: u32) -> Result<Vec<Option<Note>>, 
         count = more;
         states = flow(alloc, rom, start, &mut ends)?;
     }
-    let mut room: Vec<u16> = filled(alloc, 0)?;
-    let mut fuel: Vec<u16> = filled(alloc, 0)?;
+    let mut room: Vec<u16, A> = filled(alloc, 0)?;
+    let mut fuel: Vec<u16, A> = filled(alloc, 0)?;
     for _ in 0..ROUNDS {
         if !recount(rom, &states, &mut room, &mut fuel) {
             break;
@@ -2035,7 +2039,7 @@ use crate::note::{Change, Level, Note, Slot};
 use crate::program::fine_place;
 use crate::reach::{Test, reached};
 use crate::rules::{UNCHANGED, blank_after, byte_at, ends_at, goes_on, is_driver, is_entry, still_awake, target, word_at};
-use std::alloc::{AllocError, Global};
+use std::alloc::{AllocError, Allocator};
 
 /// What the note of a place asks of the instructions that lead there.
 #[derive(Clone, Copy, Debug, PartialEq, Eq, Hash)]
@@ -2428,11 +2432,11 @@ pub struct Broken {
 }
 
 /// Returns all places that aren't fine.
-pub fn all_broken(
-    alloc: Global,
+pub fn all_broken<A: Allocator>(
+    alloc: A,
     rom: &[u8],
     notes: &[Option<Note>],
-) -> Result<Vec<Broken>, AllocError> {
+) -> Result<Vec<Broken, A>, AllocError> {
     let mut all = Vec::new(alloc);
     for i in 0..PLACES {
         let at = FIRST + i;
@@ -2660,8 +2664,8 @@ pub fn fine(rom: &[u8], notes: &[Option<Note>], at: u32, now: &Note) -> bool {
 pub use follow::{FIRST, PLACES, leads, suits};
 pub use judging::{Judged, Verdict, judge};
 pub use kind::{Kind, Operand, Register, Sets, kind_of, size};
-pub use known::{Fact, Gap, Known, Unseen, brings_gap};
-pub use maker::make;
+pub use known::{FAR, Fact, Gap, Known, Unseen, brings_gap, known_at, value};
+pub use maker::{Step, make, step_at};
 pub use note::{Change, Held, Level, Note, Slot};
 pub use offered::{bad_table, bad_word};
 pub use program::{Refusal, boot, check_rules, stands};

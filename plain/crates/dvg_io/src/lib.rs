@@ -130,6 +130,46 @@ pub fn write_strokes_in<W: Write>(
     Ok(())
 }
 }
+mod text {
+//! A text that is made in memory.
+use std::prelude::*;
+
+use std::alloc::Allocator;
+use std::fmt;
+
+/// A text that grows as it is written to. A write fails where memory is refused.
+pub struct Text<A: Allocator> {
+    bytes: Vec<u8, A>,
+}
+
+impl<A: Allocator> Text<A> {
+    /// Returns an empty text, whose memory comes from `alloc`.
+    pub fn new(alloc: A) -> Text<A> {
+        Text {
+            bytes: Vec::new(alloc),
+        }
+    }
+
+    /// Adds `bytes`. Fails where memory is refused.
+    pub fn add(&mut self, bytes: &[u8]) -> fmt::Result {
+        match self.bytes.extend_from_slice(bytes) {
+            Ok(()) => Ok(()),
+            Err(_) => Err(fmt::Error),
+        }
+    }
+
+    /// Returns the bytes of the text.
+    pub fn into_bytes(self) -> Vec<u8, A> {
+        self.bytes
+    }
+}
+
+impl<A: Allocator> fmt::Write for Text<A> {
+    fn write_str(&mut self, part: &str) -> fmt::Result {
+        self.add(part.as_bytes())
+    }
+}
+}
 mod transfer {
 //! Whole reads and writes through watched streams.
 use std::prelude::*;
@@ -306,5 +346,6 @@ impl<W: Write> Watched<W> {
 pub use engine::{Engine, serve};
 pub use fault::ToolFault;
 pub use strokes::{write_strokes, write_strokes_in};
+pub use text::Text;
 pub use transfer::{collect_words, read_up_to, write_lines, write_whole};
 pub use watched::{StreamFailed, Watched};

@@ -103,6 +103,9 @@ pub enum Job {
     Lay { form: LayForm },
     /// Say for which kind an input is taken, and what is wrong with it first.
     Explain,
+    /// Say whether a run of a game's bytes may tear a picture. With `notes` what was noted of its
+    /// instructions is told, too.
+    Game { notes: bool },
 }
 }
 

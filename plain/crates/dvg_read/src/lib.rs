@@ -272,6 +272,14 @@ pub enum TextFault {
     /// A dump of vector memory has more than 6,144 bytes.
     #[error("dump size 6145 or more: wanted are 4096 or 6144 bytes")]
     LongDump,
+    /// A game has this many bytes, fewer than 8,192.
+    #[error("game size {0}: wanted are 8192 bytes, 2048 of the vector ROM and 6144 of the program")]
+    GameSize(usize),
+    /// A game has more than 8,192 bytes.
+    #[error(
+        "game size 8193 or more: wanted are 8192 bytes, 2048 of the vector ROM and 6144 of the program"
+    )]
+    LongGame,
     /// The line of this number, counted from 1, spells nothing that may stand at its place.
     #[error("syntax at line {0}")]
     Syntax(usize),

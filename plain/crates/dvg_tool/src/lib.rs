@@ -130,6 +130,7 @@ use crate::plays_svg::play_svg_in;
 use crate::reports::reported;
 use crate::roms::rom_text;
 use dvg_explain::explain;
+use dvg_game::game;
 use dvg_io::{ToolFault, Watched};
 use dvg_job::{Job, LogRule};
 use dvg_lay::{check_sketch, draw_sketch, lay_sketch};
@@ -182,6 +183,7 @@ pub fn perform<A: Allocator + Copy, R: Read, W: Write>(
         Job::RenderCheck => reported(check_sketch(alloc, reader, writer)),
         Job::Lay { form } => reported(lay_sketch(alloc, reader, writer, form)),
         Job::Explain => reported(explain(alloc, reader, writer)),
+        Job::Game { notes } => reported(game(alloc, reader, writer, notes)),
     }
 }
 }
@@ -309,10 +311,12 @@ use std::io::Write;
 #[derive(Debug, PartialEq, Eq, Hash)]
 pub enum Done<A: Allocator = Global> {
     /// What was asked for was written, and what was asked about is good: the draft, each frame of
-    /// the sketch, the log, or the run over the dump, which drew a picture.
+    /// the sketch, the log, the game, or the run over the dump, which drew a picture.
     Good,
     /// What was asked about isn't good, and what was written says why.
     Bad,
+    /// A game keeps to the rules, but what was written says what of it isn't seen.
+    Unseen,
     /// The run over a dump drew no picture, for this reason. What it drew was written as SVG.
     Undrawn(Undrawn),
     /// A frame of a sketch is refused, and nothing was written.
@@ -336,13 +340,15 @@ pub fn finish<A: Allocator, W: Write>(
 /// - 0: the job is done.
 /// - 1: a fault of the text, or the answer is no: a draft that `check` refuses, also in a sketch, a
 ///   dump that draws no picture, a log with a torn picture, one that contradicts itself, or one
-///   that has nothing to judge.
+///   that has nothing to judge, a game that is refused.
 /// - 2: a stream or an allocation failed.
+/// - 3: a game keeps to the rules, but not all that it offers and puts is seen.
 ///
 /// Arguments that ask for no job are 64, which no engine returns.
 pub fn status<A: Allocator>(answer: &Result<Done<A>, ToolFault>) -> u8 {
     match answer {
         Ok(Done::Good) => 0,
+        Ok(Done::Unseen) => 3,
         Ok(Done::Bad | Done::Undrawn(_) | Done::Refused(_)) | Err(ToolFault::Text(_)) => 1,
         Err(ToolFault::Reader | ToolFault::Writer | ToolFault::Memory) => 2,
     }
@@ -654,6 +660,8 @@ use std::prelude::*;
 use crate::outcome::Done;
 use dvg_blame::Refusal;
 use dvg_explain::Finding;
+use dvg_game::Told;
+use dvg_game_check::Verdict as GameVerdict;
 use dvg_io::ToolFault;
 use dvg_lay::Said;
 use dvg_logs::{LogFinding, LogVerdict, MomentVerdict};
@@ -752,6 +760,16 @@ impl<A: Allocator> Answer<A> for Said<A> {
 impl<A: Allocator> Answer<A> for Finding<A> {
     fn done(self) -> Done<A> {
         if self.is_good { Done::Good } else { Done::Bad }
+    }
+}
+
+impl<A: Allocator> Answer<A> for Told<A> {
+    fn done(self) -> Done<A> {
+        match self.verdict {
+            GameVerdict::Keeps(_) => Done::Good,
+            GameVerdict::Unseen(_, _) => Done::Unseen,
+            GameVerdict::Refused(_) => Done::Bad,
+        }
     }
 }
 

@@ -16,5 +16,6 @@ returns-clause-app c =
     let torn = same c.in_ok-with_torn.ensures.app play c.in_ok-torn_command.ensures.app in
     let render = same c.in_ok-with_render.ensures.app torn c.in_ok-render_command.ensures.app in
     let lay = same c.in_ok-with_lay.ensures.app render c.in_ok-lay_command.ensures.app in
-    IfOk-weaker c.with_part-9.result (λ r. app_of r ≡ added (app_of c.in_ok-with_lay.with_lay) (app_of c.helped-explain.result)) _
-    (λ r e. same e lay c.helped-explain.ensures.app) c.with_part-9.ensures.app
+    let explain = same c.in_ok-with_explain.ensures.app lay c.helped-explain.ensures.app in
+    IfOk-weaker c.with_part-10.result (λ r. app_of r ≡ added (app_of c.in_ok-with_explain.with_explain) (app_of c.in_ok-game_command.ok)) _
+    (λ r e. same e explain c.in_ok-game_command.ensures.app) c.with_part-10.ensures.app

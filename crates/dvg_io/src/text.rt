@@ -4,20 +4,20 @@ use std::fmt;
 
 /// A text that grows as it is written to. A write fails where memory is refused.
 #[derive(Drop)]
-pub(crate) struct Text<A: Allocator> {
+pub struct Text<A: Allocator> {
     bytes: Vec<u8, A>,
 }
 
 impl<A: Allocator> Text<A> {
     /// Returns an empty text, whose memory comes from `alloc`.
-    pub(crate) fn new(alloc: A) -> Text<A> {
+    pub fn new(alloc: A) -> Text<A> {
         Text {
             bytes: Vec::new(alloc),
         }
     }
 
     /// Adds `bytes`. Fails where memory is refused.
-    pub(crate) fn add(&mut self, bytes: &[u8]) -> fmt::Result {
+    pub fn add(&mut self, bytes: &[u8]) -> fmt::Result {
         match self.bytes.extend_from_slice(bytes) {
             Ok(()) => Ok(()),
             Err(_) => Err(fmt::Error),
@@ -25,7 +25,7 @@ impl<A: Allocator> Text<A> {
     }
 
     /// Returns the bytes of the text.
-    pub(crate) fn into_bytes(self) -> Vec<u8, A> {
+    pub fn into_bytes(self) -> Vec<u8, A> {
         self.bytes
     }
 }

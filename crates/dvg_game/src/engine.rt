@@ -1,0 +1,100 @@
+//! The engine `game`.
+use crate::telling::tell;
+use crate::told::Told;
+use dvg_code::OutOfMemory;
+use dvg_game_check::judge;
+use dvg_io::{Engine, StreamFailed, ToolFault, Watched, serve, write_lines, write_whole};
+use dvg_mem::{MEMORY_BYTES, Rom};
+use dvg_read::{TextFault, Unread};
+use std::alloc::Allocator;
+use std::io::{Read, Write};
+
+/// How many bytes an input has: the vector ROM's, and then the program's.
+pub const GAME_BYTES: usize = 8192;
+
+// Returns the fault of an input that has another number of bytes.
+fn size_fault(input: &[u8]) -> TextFault {
+    if input.len() > GAME_BYTES {
+        TextFault::LongGame
+    } else {
+        TextFault::GameSize(input.len())
+    }
+}
+
+// Returns what is found of an input that has as many bytes as it has to.
+fn find_in<A: Allocator + Copy>(
+    alloc: A,
+    input: &[u8],
+    with_notes: bool,
+) -> Result<Told<A>, OutOfMemory> {
+    let Ok(vectors) = Rom::new(alloc, &input[..MEMORY_BYTES]) else {
+        return Err(OutOfMemory);
+    };
+    let rom = &input[MEMORY_BYTES..];
+    let judged = judge(alloc, rom, &vectors)?;
+    tell(alloc, rom, &judged, with_notes)
+}
+
+// The engine. With `notes` each note is told, too.
+#[derive(Drop)]
+struct GameEngine {
+    notes: bool,
+}
+
+// Writes what is told to `writer`, each line by itself.
+fn write_told<A: Allocator, W: Write>(
+    told: &Told<A>,
+    writer: &mut Watched<W>,
+) -> Result<(), StreamFailed> {
+    write_whole(writer, told.opening())?;
+    for line in told.lines.as_slice() {
+        write_whole(writer, line.bytes.as_slice())?;
+    }
+    write_lines(writer, told.more.as_slice())
+}
+
+impl<A: Allocator + Copy> Engine<A> for GameEngine {
+    type Found = Told<A>;
+
+    const MOST: u32 = GAME_BYTES as u32;
+
+    fn find(&self, alloc: A, read: &[u8]) -> Result<Told<A>, Unread> {
+        if read.len() != GAME_BYTES {
+            return Err(Unread::Text(size_fault(read)));
+        }
+        match find_in(alloc, read, self.notes) {
+            Ok(told) => Ok(told),
+            Err(OutOfMemory) => Err(Unread::Memory),
+        }
+    }
+
+    fn write<W: Write>(
+        &self,
+        told: &Told<A>,
+        writer: &mut Watched<W>,
+    ) -> Result<(), StreamFailed> {
+        write_told(told, writer)
+    }
+}
+
+/// Reads a game from `reader`: the 2,048 bytes of its vector ROM, and then the 6,144 of its
+/// program, from 6800 to 7FFF. Writes to `writer` whether a run of these bytes may tear a picture
+/// (the texts are this project's own choice), in a line; and then a line for each instruction that
+/// breaks a rule, or of which not all is seen, with its address, the causes first. With `notes` the
+/// notes of the program follow. Returns what was told. The faults:
+///
+/// - `GameSize`: the input has so many bytes, fewer than 8,192.
+/// - `LongGame`: it has more, of which no more than 8,193 are taken.
+/// - `Reader`, `Writer`: that stream failed. After `Writer` a beginning of the text went out.
+/// - `Memory`: an allocation failed.
+///
+/// Where it stops before it writes, which is at any fault but `Writer`, the writer is as it was.
+#[inline(never)]
+pub fn game<A: Allocator + Copy, R: Read, W: Write>(
+    alloc: A,
+    reader: &mut Watched<R>,
+    writer: &mut Watched<W>,
+    notes: bool,
+) -> Result<Told<A>, ToolFault> {
+    serve(&GameEngine { notes }, alloc, reader, writer)
+}

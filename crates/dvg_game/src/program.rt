@@ -1,0 +1,52 @@
+//! A program that is told of.
+use dvg_game_check::{FIRST, Kind, Note, Step, kind_of, step_at};
+
+/// Where the program's bytes begin.
+const ROM: u32 = 0x6800;
+
+/// The address of the NMI's vector.
+pub(crate) const NMI_VECTOR: u32 = 0x7FFA;
+
+/// The bytes of a program from 6800 to 7FFF, its notes, and where it starts behind TXS.
+#[derive(Clone, Copy)]
+pub(crate) struct Program<'a> {
+    pub rom: &'a [u8],
+    pub notes: &'a [Option<Note>],
+    pub start: u32,
+}
+
+impl<'a> Program<'a> {
+    /// Returns the byte at an address, or 0 outside of the program.
+    pub(crate) fn byte(&self, at: u32) -> u8 {
+        match self.rom.get(at.wrapping_sub(ROM) as usize) {
+            Some(byte) => *byte,
+            None => 0,
+        }
+    }
+
+    /// Returns the word at an address, its low byte first.
+    pub(crate) fn word(&self, at: u32) -> u16 {
+        u16::from(self.byte(at)) + 256 * u16::from(self.byte(at.wrapping_add(1)))
+    }
+
+    /// Returns the note of a place, if code is there.
+    pub(crate) fn note(&self, at: u32) -> Option<&'a Note> {
+        match self.notes.get(at.wrapping_sub(FIRST) as usize) {
+            Some(Some(note)) => Some(note),
+            _ => None,
+        }
+    }
+
+    /// Returns the kind of the instruction at an address.
+    pub(crate) fn kind(&self, at: u32) -> Kind {
+        kind_of(self.byte(at))
+    }
+
+    /// Returns where the instruction at an address leads, if code is there.
+    pub(crate) fn step(&self, at: u32) -> Option<Step> {
+        match self.note(at) {
+            Some(_) if at < 65536 => Some(step_at(self.rom, at)),
+            _ => None,
+        }
+    }
+}
