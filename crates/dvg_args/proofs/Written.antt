@@ -3,13 +3,15 @@ use Rattle.std.proofs.Common.{◌∷◌, [], None, codes, false, refl, true}
 use Rattle.clap.proofs.OnLiterals.{clap_on_literals}
 use Rattle.dvg_args.specs.Arguments.{dvg_app}
 use Rattle.dvg_args.specs.Laws.{AskFor, HelpArguments, OtherArguments, RefusedOptions, SketchJobArguments, TextJobArguments}
-use Rattle.dvg_job.specs.declared.task.Job.TheVariants.{Lay, Play, Torn}
+use Rattle.dvg_job.specs.declared.task.Job.TheVariants.{Game, Lay, Play, Torn}
 use Rattle.dvg_job.specs.declared.form.LayForm.TheVariants.{Equates}
 use Rattle.dvg_job.specs.declared.form.LogRule.TheVariants.{AllMoments, Moments}
 
 pub text_job_arguments : TextJobArguments
 unfolding dvg_app clap_on_literals
 text_job_arguments = (
+  λ name. ((refl, refl), refl, refl),
+  λ name. ((refl, refl), refl, refl),
   λ name. ((refl, refl), refl, refl),
   λ name. ((refl, refl), refl, refl),
   λ name. ((refl, refl), refl, refl),
@@ -83,3 +85,7 @@ torn_moments name = ((refl, refl), refl, refl)
 pub torn_all_moments : AskFor (codes "torn" ∷ codes "--moments" ∷ codes "--all" ∷ []) (Torn AllMoments None)
 unfolding dvg_app clap_on_literals
 torn_all_moments name = ((refl, refl), refl, refl)
+
+pub game_notes : AskFor (codes "game" ∷ codes "--notes" ∷ []) (Game true)
+unfolding dvg_app clap_on_literals
+game_notes name = ((refl, refl), refl, refl)

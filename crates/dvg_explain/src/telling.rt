@@ -67,6 +67,12 @@ fn tell_sizes<A: Allocator>(out: &mut Text<A>, bytes: &[u8]) -> fmt::Result {
     if count == MEMORY_BYTES {
         return write!(out, "dvg rom takes it as a ROM\n");
     }
+    if count == MOST_WORD_BYTES {
+        return write!(
+            out,
+            "dvg game takes it as a game, a vector ROM of {MEMORY_BYTES} bytes and a program\n"
+        );
+    }
     write!(
         out,
         "it is no ROM and no dump: dvg rom takes {MEMORY_BYTES} or {LARGE_ROM_BYTES} bytes, dvg \

@@ -1,6 +1,13 @@
 //! The engine `game`.
+ghost use Rattle.std.specs.Prelude.{◌≡◌, ◌≢◌, ◌++◌, ◌<◌, IfOk, flat_map, length};
+ghost use Rattle.dvg_io.specs.Faults.{ComesBeforeText};
+ghost use Rattle.dvg_io.specs.Serving.{AreFresh, Serves};
+ghost use Rattle.dvg_io.specs.Watching.{Writes};
+ghost use Rattle.dvg_game.specs.Telling.{HasGameFault, IsTold, IsToldOf, JudgesGame, opening_of};
+ghost use Rattle.dvg_game.specs.Telling.{program_of, told_text, vectors_of};
+
 use crate::telling::tell;
-use crate::told::Told;
+use crate::told::{PlaceLine, Told};
 use dvg_code::OutOfMemory;
 use dvg_game_check::judge;
 use dvg_io::{Engine, StreamFailed, ToolFault, Watched, serve, write_lines, write_whole};
@@ -13,7 +20,10 @@ use std::io::{Read, Write};
 pub const GAME_BYTES: usize = 8192;
 
 // Returns the fault of an input that has another number of bytes.
-fn size_fault(input: &[u8]) -> TextFault {
+fn size_fault(input: &[u8]) -> TextFault
+    requires { length input.now ≢ GAME_BYTES }
+    ensures { HasGameFault input.now result }
+{
     if input.len() > GAME_BYTES {
         TextFault::LongGame
     } else {
@@ -26,7 +36,10 @@ fn find_in<A: Allocator + Copy>(
     alloc: A,
     input: &[u8],
     with_notes: bool,
-) -> Result<Told<A>, OutOfMemory> {
+) -> Result<Told<A>, OutOfMemory>
+    requires { length input.now ≡ GAME_BYTES }
+    ensures { IfOk result (IsToldOf (program_of input.now) (vectors_of input.now)) }
+{
     let Ok(vectors) = Rom::new(alloc, &input[..MEMORY_BYTES]) else {
         return Err(OutOfMemory);
     };
@@ -41,22 +54,71 @@ struct GameEngine {
     notes: bool,
 }
 
+// Writes these lines to `writer`, each by itself.
+fn write_places<A: Allocator, W: Write>(
+    lines: &[PlaceLine<A>],
+    writer: &mut Watched<W>,
+) -> Result<(), StreamFailed>
+    ensures { Writes W.contents (flat_map (λ line. line.bytes.items) lines.now)
+        result writer.old writer.new }
+{
+    for line in lines {
+        write_whole(writer, line.bytes.as_slice())?;
+    }
+    Ok(())
+}
+
+// Writes `opening` and these lines to `writer`.
+fn write_opened<A: Allocator, W: Write>(
+    opening: &[u8],
+    lines: &[PlaceLine<A>],
+    writer: &mut Watched<W>,
+) -> Result<(), StreamFailed>
+    ensures { Writes W.contents (opening.now ++ flat_map (λ line. line.bytes.items) lines.now)
+        result writer.old writer.new }
+{
+    write_whole(writer, opening)?;
+    write_places(lines, writer)
+}
+
+// Writes `opening`, these lines, and those of `more` to `writer`, each line by itself.
+fn write_all_of<A: Allocator, W: Write>(
+    opening: &[u8],
+    lines: &[PlaceLine<A>],
+    more: &[u8],
+    writer: &mut Watched<W>,
+) -> Result<(), StreamFailed>
+    ensures { Writes W.contents
+        (opening.now ++ flat_map (λ line. line.bytes.items) lines.now ++ more.now)
+        result writer.old writer.new }
+{
+    write_opened(opening, lines, writer)?;
+    write_lines(writer, more)
+}
+
 // Writes what is told to `writer`, each line by itself.
 fn write_told<A: Allocator, W: Write>(
     told: &Told<A>,
     writer: &mut Watched<W>,
-) -> Result<(), StreamFailed> {
-    write_whole(writer, told.opening())?;
-    for line in told.lines.as_slice() {
-        write_whole(writer, line.bytes.as_slice())?;
-    }
-    write_lines(writer, told.more.as_slice())
+) -> Result<(), StreamFailed>
+    ensures { Writes W.contents (told_text told.now) result writer.old writer.new }
+{
+    let (lines, more) = (told.lines.as_slice(), told.more.as_slice());
+    write_all_of(told.opening(), lines, more, writer)
 }
 
 impl<A: Allocator + Copy> Engine<A> for GameEngine {
     type Found = Told<A>;
 
     const MOST: u32 = GAME_BYTES as u32;
+
+    ghost MOST = { GAME_BYTES };
+
+    ghost Finds = { λ engine. IsTold };
+
+    ghost HasFault = { λ engine. HasGameFault };
+
+    ghost text = { λ engine. told_text };
 
     fn find(&self, alloc: A, read: &[u8]) -> Result<Told<A>, Unread> {
         if read.len() != GAME_BYTES {
@@ -95,6 +157,10 @@ pub fn game<A: Allocator + Copy, R: Read, W: Write>(
     reader: &mut Watched<R>,
     writer: &mut Watched<W>,
     notes: bool,
-) -> Result<Told<A>, ToolFault> {
+) -> Result<Told<A>, ToolFault>
+    requires fresh { AreFresh reader.old writer.old }
+    ensures { Serves R.remaining W.contents GAME_BYTES ComesBeforeText JudgesGame
+        result reader.old reader.new writer.old writer.new }
+{
     serve(&GameEngine { notes }, alloc, reader, writer)
 }

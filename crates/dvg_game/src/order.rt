@@ -1,4 +1,7 @@
 //! The places that are refused, the causes first.
+ghost use Rattle.std.specs.Prelude.{◌≡◌, ℕ, IfOk};
+ghost use Rattle.dvg_game_check.specs.Why.{listed};
+
 use crate::program::Program;
 use dvg_game_check::{Ask, Broken, Level, Rule};
 use std::alloc::{AllocError, Allocator};
@@ -16,29 +19,23 @@ fn follows(program: &Program<'_>, broken: Broken) -> bool {
     }
 }
 
-// Adds those of which this is so whether another instruction is mostly the cause.
-fn add<A: Allocator>(
-    program: &Program<'_>,
-    all: &[Broken],
-    wanted: bool,
-    ordered: &mut Vec<Broken, A>,
-) -> Result<(), AllocError> {
-    for broken in all {
-        if follows(program, *broken) == wanted {
-            ordered.push(*broken)?;
-        }
-    }
-    Ok(())
-}
-
 /// Returns the same places, those first that are mostly a cause.
-pub(crate) fn causes_first<A: Allocator>(
+pub(crate) fn causes_first<A: Allocator + Copy>(
     alloc: A,
     program: &Program<'_>,
     all: &[Broken],
-) -> Result<Vec<Broken, A>, AllocError> {
-    let mut ordered = Vec::new(alloc);
-    add(program, all, false, &mut ordered)?;
-    add(program, all, true, &mut ordered)?;
-    Ok(ordered)
+) -> Result<Vec<Broken, A>, AllocError>
+    ensures { IfOk result (λ ordered. (at : ℕ) → listed ordered.items at ≡ listed all.now at) }
+{
+    let mut causes = Vec::new(alloc);
+    let mut others: Vec<Broken, A> = Vec::new(alloc);
+    for broken in all {
+        if follows(program, *broken) {
+            others.push(*broken)?;
+        } else {
+            causes.push(*broken)?;
+        }
+    }
+    causes.extend_from_slice(others.as_slice())?;
+    Ok(causes)
 }

@@ -1,5 +1,5 @@
 //! A program that is told of.
-use dvg_game_check::{FIRST, Kind, Note, Step, kind_of, step_at};
+use dvg_game_check::{BYTES, FIRST, Kind, Note, Step, boot, kind_of, step_at};
 
 /// Where the program's bytes begin.
 const ROM: u32 = 0x6800;
@@ -15,7 +15,27 @@ pub(crate) struct Program<'a> {
     pub start: u32,
 }
 
+// Returns where a program starts, or 0.
+fn start_of(rom: &[u8]) -> u32 {
+    if rom.len() != BYTES {
+        return 0;
+    }
+    match boot(rom) {
+        Ok(start) => start,
+        Err(_) => 0,
+    }
+}
+
 impl<'a> Program<'a> {
+    /// Returns the program of these bytes, with these notes.
+    pub(crate) fn new(rom: &'a [u8], notes: &'a [Option<Note>]) -> Program<'a> {
+        Program {
+            rom,
+            notes,
+            start: start_of(rom),
+        }
+    }
+
     /// Returns the byte at an address, or 0 outside of the program.
     pub(crate) fn byte(&self, at: u32) -> u8 {
         match self.rom.get(at.wrapping_sub(ROM) as usize) {
@@ -44,9 +64,9 @@ impl<'a> Program<'a> {
 
     /// Returns where the instruction at an address leads, if code is there.
     pub(crate) fn step(&self, at: u32) -> Option<Step> {
-        match self.note(at) {
-            Some(_) if at < 65536 => Some(step_at(self.rom, at)),
-            _ => None,
+        if 65536 <= at || self.note(at).is_none() {
+            return None;
         }
+        Some(step_at(self.rom, at))
     }
 }

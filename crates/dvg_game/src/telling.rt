@@ -1,4 +1,9 @@
 //! What is told of a program that was judged.
+ghost use Rattle.std.specs.Prelude.{◌≡◌, ◌∷◌, [], All, IfOk, length, map};
+ghost use Rattle.dvg_game_check.specs.Why.{AreBroken};
+ghost use Rattle.dvg_game.specs.Telling.{AreToldOf, IsLineOf, TellBroken, addresses};
+ghost use Rattle.dvg_game.specs.Telling.{IsToldAs};
+
 use crate::hints::Hints;
 use crate::notes::tell_notes;
 use crate::order::causes_first;
@@ -9,25 +14,28 @@ use crate::told::{PlaceLine, Told};
 use crate::unseen::{place_of, tell_unseen};
 use crate::vectors::{tell_boot, tell_vectors};
 use dvg_code::OutOfMemory;
-use dvg_game_check::{Broken, Judged, Refusal, Unseen, Verdict, all_broken, boot};
+use dvg_game_check::{
+    BYTES, Broken, Judged, Note, PLACES, Refusal, Unseen, Verdict, all_broken,
+};
 use dvg_io::Text;
+use dvg_print::glyph;
 use std::alloc::Allocator;
 use std::fmt::{self, Write};
-
-/// The hexadecimal digits.
-const DIGITS: &[u8; 16] = b"0123456789ABCDEF";
 
 // Returns a line that begins with an address.
 fn line_at<A: Allocator>(
     alloc: A,
     at: u32,
     text: &[u8],
-) -> Result<PlaceLine<A>, OutOfMemory> {
+) -> Result<PlaceLine<A>, OutOfMemory>
+    ensures at { IfOk result (λ line. line.at ≡ at) }
+    ensures form { IfOk result IsLineOf }
+{
     let mut bytes = Vec::new(alloc);
-    bytes.push(DIGITS[(at / 4096 % 16) as usize])?;
-    bytes.push(DIGITS[(at / 256 % 16) as usize])?;
-    bytes.push(DIGITS[(at / 16 % 16) as usize])?;
-    bytes.push(DIGITS[(at % 16) as usize])?;
+    bytes.push(glyph((at / 4096 % 16) as usize))?;
+    bytes.push(glyph((at / 256 % 16) as usize))?;
+    bytes.push(glyph((at / 16 % 16) as usize))?;
+    bytes.push(glyph((at % 16) as usize))?;
     bytes.push(b':')?;
     bytes.push(b' ')?;
     bytes.extend_from_slice(text)?;
@@ -49,7 +57,10 @@ fn lines_of<A: Allocator + Copy>(
     program: &Program<'_>,
     hints: &Hints<A>,
     all: &[Broken],
-) -> Result<Vec<PlaceLine<A>, A>, OutOfMemory> {
+) -> Result<Vec<PlaceLine<A>, A>, OutOfMemory>
+    ensures at { IfOk result (λ lines. addresses lines.items ≡ map (λ broken. broken.at) all.now) }
+    ensures form { IfOk result (λ lines. All IsLineOf lines.items) }
+{
     let mut lines = Vec::new(alloc);
     for broken in all {
         let mut out = Text::new(alloc);
@@ -74,7 +85,9 @@ fn tell_kept<A: Allocator + Copy>(
     alloc: A,
     program: &Program<'_>,
     judged: &Judged<A>,
-) -> Result<Parts<A>, OutOfMemory> {
+) -> Result<Parts<A>, OutOfMemory>
+    ensures { IfOk result (λ parts. parts.lines.items ≡ []) }
+{
     let mut out = Text::new(alloc);
     let counts = count(alloc, program)?;
     let (tables, words) = (judged.tables.len(), judged.words.len());
@@ -91,7 +104,10 @@ fn unseen_lines<A: Allocator + Copy>(
     program: &Program<'_>,
     at: u32,
     why: Unseen,
-) -> Result<Vec<PlaceLine<A>, A>, OutOfMemory> {
+) -> Result<Vec<PlaceLine<A>, A>, OutOfMemory>
+    ensures at { IfOk result (λ lines. addresses lines.items ≡ at ∷ []) }
+    ensures form { IfOk result (λ lines. All IsLineOf lines.items) }
+{
     let mut out = Text::new(alloc);
     done(tell_unseen(&mut out, program, at, why))?;
     let text = out.into_bytes();
@@ -106,7 +122,10 @@ fn tell_gaps<A: Allocator + Copy>(
     program: &Program<'_>,
     judged: &Judged<A>,
     why: Unseen,
-) -> Result<Parts<A>, OutOfMemory> {
+) -> Result<Parts<A>, OutOfMemory>
+    ensures at { IfOk result (λ parts. IsToldAs why (addresses parts.lines.items)) }
+    ensures form { IfOk result (λ parts. All IsLineOf parts.lines.items) }
+{
     let lines = match place_of(program, judged.ways.as_slice(), why) {
         Some(at) => unseen_lines(alloc, program, at, why)?,
         None => Vec::new(alloc),
@@ -127,7 +146,10 @@ fn tell_unbooted<A: Allocator + Copy>(
     alloc: A,
     program: &Program<'_>,
     at: u32,
-) -> Result<Parts<A>, OutOfMemory> {
+) -> Result<Parts<A>, OutOfMemory>
+    ensures at { IfOk result (λ parts. addresses parts.lines.items ≡ at ∷ []) }
+    ensures form { IfOk result (λ parts. All IsLineOf parts.lines.items) }
+{
     let mut out = Text::new(alloc);
     done(tell_boot(&mut out, program, at))?;
     let text = out.into_bytes();
@@ -140,7 +162,9 @@ fn tell_unbooted<A: Allocator + Copy>(
 }
 
 // Returns what is told of a program that has not the driver's code.
-fn tell_driver<A: Allocator + Copy>(alloc: A) -> Result<Parts<A>, OutOfMemory> {
+fn tell_driver<A: Allocator + Copy>(alloc: A) -> Result<Parts<A>, OutOfMemory>
+    ensures { IfOk result (λ parts. parts.lines.items ≡ []) }
+{
     let mut out = Text::new(alloc);
     done(write!(
         out,
@@ -155,14 +179,21 @@ fn tell_driver<A: Allocator + Copy>(alloc: A) -> Result<Parts<A>, OutOfMemory> {
 // Returns what is told of a program whose instructions, or vectors, break a rule.
 fn tell_rules<A: Allocator + Copy>(
     alloc: A,
-    program: &Program<'_>,
-) -> Result<Parts<A>, OutOfMemory> {
-    let all = all_broken(alloc, program.rom, program.notes)?;
-    let ordered = causes_first(alloc, program, all.as_slice())?;
-    let hints = Hints::new(alloc, program, ordered.as_slice())?;
-    let lines = lines_of(alloc, program, &hints, ordered.as_slice())?;
+    rom: &[u8],
+    notes: &[Option<Note>],
+) -> Result<Parts<A>, OutOfMemory>
+    requires bytes { length rom.now ≡ BYTES }
+    requires notes { length notes.now ≡ PLACES }
+    ensures at { IfOk result (λ parts. TellBroken rom.now notes.now (addresses parts.lines.items)) }
+    ensures form { IfOk result (λ parts. All IsLineOf parts.lines.items) }
+{
+    let program = Program::new(rom, notes);
+    let all = all_broken(alloc, rom, notes)?;
+    let ordered = causes_first(alloc, &program, all.as_slice())?;
+    let hints = Hints::new(alloc, &program, ordered.as_slice())?;
+    let lines = lines_of(alloc, &program, &hints, ordered.as_slice())?;
     let mut out = Text::new(alloc);
-    done(tell_vectors(&mut out, program))?;
+    done(tell_vectors(&mut out, &program))?;
     Ok(Parts {
         lines,
         more: out.into_bytes(),
@@ -172,15 +203,23 @@ fn tell_rules<A: Allocator + Copy>(
 // Returns what is told of a program that was judged so.
 fn parts_of<A: Allocator + Copy>(
     alloc: A,
-    program: &Program<'_>,
+    rom: &[u8],
     judged: &Judged<A>,
-) -> Result<Parts<A>, OutOfMemory> {
+) -> Result<Parts<A>, OutOfMemory>
+    requires bytes { length rom.now ≡ BYTES }
+    requires notes { length judged.now.notes.items ≡ PLACES }
+    ensures at { IfOk result (λ parts. AreToldOf rom.now judged.now.notes.items
+        judged.now.verdict (addresses parts.lines.items)) }
+    ensures form { IfOk result (λ parts. All IsLineOf parts.lines.items) }
+{
+    let notes = judged.notes.as_slice();
+    let program = Program::new(rom, notes);
     match judged.verdict {
-        Verdict::Keeps(_) => tell_kept(alloc, program, judged),
-        Verdict::Unseen(_, why) => tell_gaps(alloc, program, judged, why),
+        Verdict::Keeps(_) => tell_kept(alloc, &program, judged),
+        Verdict::Unseen(_, why) => tell_gaps(alloc, &program, judged, why),
         Verdict::Refused(Refusal::Driver) => tell_driver(alloc),
-        Verdict::Refused(Refusal::Boot(at)) => tell_unbooted(alloc, program, at),
-        Verdict::Refused(_) => tell_rules(alloc, program),
+        Verdict::Refused(Refusal::Boot(at)) => tell_unbooted(alloc, &program, at),
+        Verdict::Refused(_) => tell_rules(alloc, rom, notes),
     }
 }
 
@@ -191,31 +230,24 @@ pub(crate) fn tell<A: Allocator + Copy>(
     rom: &[u8],
     judged: &Judged<A>,
     with_notes: bool,
-) -> Result<Told<A>, OutOfMemory> {
-    let program = Program {
-        rom,
-        notes: judged.notes.as_slice(),
-        start: start_of(rom),
-    };
-    let parts = parts_of(alloc, &program, judged)?;
-    let mut more = parts.more;
+) -> Result<Told<A>, OutOfMemory>
+    requires bytes { length rom.now ≡ BYTES }
+    requires notes { length judged.now.notes.items ≡ PLACES }
+    ensures verdict { IfOk result (λ told. told.verdict ≡ judged.now.verdict) }
+    ensures at { IfOk result (λ told. AreToldOf rom.now judged.now.notes.items
+        judged.now.verdict (addresses told.lines.items)) }
+    ensures form { IfOk result (λ told. All IsLineOf told.lines.items) }
+{
+    let parts = parts_of(alloc, rom, judged)?;
+    let mut out = Text::new(alloc);
+    done(out.add(parts.more.as_slice()))?;
     if with_notes {
-        let mut out = Text::new(alloc);
+        let program = Program::new(rom, judged.notes.as_slice());
         done(tell_notes(&mut out, &program))?;
-        let text = out.into_bytes();
-        more.extend_from_slice(text.as_slice())?;
     }
     Ok(Told {
         verdict: judged.verdict,
         lines: parts.lines,
-        more,
+        more: out.into_bytes(),
     })
-}
-
-// Returns where a program starts, or 0.
-fn start_of(rom: &[u8]) -> u32 {
-    match boot(rom) {
-        Ok(start) => start,
-        Err(_) => 0,
-    }
 }

@@ -77,7 +77,8 @@ pub fn judge<A: Allocator + Copy, B: Allocator>(
     vectors: &Rom<B>,
 ) -> Result<Judged<A>, AllocError>
     requires { length rom.now ≡ BYTES }
-    ensures { IfOk result (λ judged. Means rom.now vectors.now judged) }
+    ensures means { IfOk result (λ judged. Means rom.now vectors.now judged) }
+    ensures sized { IfOk result (λ judged. length judged.notes.items ≡ PLACES) }
 {
     let start = match boot(rom) {
         Ok(start) => start,

@@ -18,7 +18,7 @@ mod verdict;
 
 pub use entry_lines::EntryLines;
 pub use instr_line::InstrLine;
-pub use line::{LINE_WORDS, Line};
+pub use line::{LINE_WORDS, Line, glyph};
 pub use log_verdict::{LogCounts, LogFinding, LogVerdict};
 pub use moment_verdict::{MomentVerdict, Reading};
 pub use stroke_lines::StrokeLines;

@@ -28,9 +28,9 @@ static PAIRS: [u8; 512] =
     C8C9CACBCCCDCECFD0D1D2D3D4D5D6D7D8D9DADBDCDDDEDFE0E1E2E3E4E5E6E7E8E9EAEBECEDEEEF\
     F0F1F2F3F4F5F6F7F8F9FAFBFCFDFEFF";
 
-// Returns `digit`, 0 to 15, as a hexadecimal digit in upper case.
+/// Returns `digit`, 0 to 15, as a hexadecimal digit in upper case.
 #[inline(always)]
-pub(crate) fn glyph(digit: usize) -> u8
+pub fn glyph(digit: usize) -> u8
     requires { digit < 16 }
     ensures { result ≡ digit_glyph true digit }
 {

@@ -26,7 +26,7 @@ use Rattle.dvg_read.proofs.OneTrace.{one_trace_meaning, no_fault_beside_trace}
 use Rattle.clap.specs.Words.{Row, Text as WordText}
 use Rattle.dvg_args.specs.Arguments.{IsJob}
 use Rattle.dvg_job.specs.declared.task.Job.{Job}
-use Rattle.dvg_job.specs.declared.task.Job.TheVariants.{List as list_job, ListAt, Rom, Picture, PictureSvg, Check, Play, PlaySvg, Torn, Render, RenderCheck, Lay, Explain}
+use Rattle.dvg_job.specs.declared.task.Job.TheVariants.{List as list_job, ListAt, Rom, Picture, PictureSvg, Check, Play, PlaySvg, Torn, Render, RenderCheck, Lay, Explain, Game}
 use Rattle.dvg_driver.specs.declared.action.Action.{Action}
 use Rattle.dvg_driver.specs.declared.action.Action.TheVariants.{Peek, Wrote, Read}
 use Rattle.dvg_driver.specs.Script.{Item, Did, Offered, IsLife, IsWhole}
@@ -190,6 +190,8 @@ play_only RenderCheck None x y = absurd (cc)
 play_only RenderCheck (Some p) x y = absurd (begins_so p.0 (codes "render") (ap (λ q. q.0) (same_Some _ _ x)) (ap (λ q. q.0) (same_Some _ _ y)) (λ (d : 114 ≡ 112). omega arith))
 play_only Explain None x y = absurd (cc)
 play_only Explain (Some p) x y = absurd (begins_so p.0 (codes "explain") (same_Some _ _ x) (ap (λ q. q.0) (same_Some _ _ y)) (λ (d : 101 ≡ 112). omega arith))
+play_only (Game notes) None x y = absurd (cc)
+play_only (Game notes) (Some p) x y = absurd (begins_so p.0 (codes "game") (ap (λ q. q.0) (same_Some _ _ x)) (ap (λ q. q.0) (same_Some _ _ y)) (λ (d : 103 ≡ 112). omega arith))
 play_only (Lay form) None x y = absurd (cc)
 play_only (Lay form) (Some p) x y = absurd (begins_so p.0 (codes "lay") (ap (λ q. q.0) (same_Some _ _ x)) (ap (λ q. q.0) (same_Some _ _ y)) (λ (d : 108 ≡ 112). omega arith))
 

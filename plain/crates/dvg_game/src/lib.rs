@@ -521,7 +521,7 @@ pub(crate) fn undoing<A: Allocator + Copy>(
 mod engine {
 //! The engine `game`.
 use crate::telling::tell;
-use crate::told::Told;
+use crate::told::{PlaceLine, Told};
 use dvg_code::OutOfMemory;
 use dvg_game_check::judge;
 use dvg_io::{Engine, StreamFailed, ToolFault, Watched, serve, write_lines, write_whole};
@@ -561,16 +561,45 @@ struct GameEngine {
     notes: bool,
 }
 
+// Writes these lines to `writer`, each by itself.
+fn write_places<A: Allocator, W: Write>(
+    lines: &[PlaceLine<A>],
+    writer: &mut Watched<W>,
+) -> Result<(), StreamFailed> {
+    for line in lines {
+        write_whole(writer, line.bytes.as_slice())?;
+    }
+    Ok(())
+}
+
+// Writes `opening` and these lines to `writer`.
+fn write_opened<A: Allocator, W: Write>(
+    opening: &[u8],
+    lines: &[PlaceLine<A>],
+    writer: &mut Watched<W>,
+) -> Result<(), StreamFailed> {
+    write_whole(writer, opening)?;
+    write_places(lines, writer)
+}
+
+// Writes `opening`, these lines, and those of `more` to `writer`, each line by itself.
+fn write_all_of<A: Allocator, W: Write>(
+    opening: &[u8],
+    lines: &[PlaceLine<A>],
+    more: &[u8],
+    writer: &mut Watched<W>,
+) -> Result<(), StreamFailed> {
+    write_opened(opening, lines, writer)?;
+    write_lines(writer, more)
+}
+
 // Writes what is told to `writer`, each line by itself.
 fn write_told<A: Allocator, W: Write>(
     told: &Told<A>,
     writer: &mut Watched<W>,
 ) -> Result<(), StreamFailed> {
-    write_whole(writer, told.opening())?;
-    for line in told.lines.as_slice() {
-        write_whole(writer, line.bytes.as_slice())?;
-    }
-    write_lines(writer, told.more.as_slice())
+    let (lines, more) = (told.lines.as_slice(), told.more.as_slice());
+    write_all_of(told.opening(), lines, more, writer)
 }
 
 impl<A: Allocator + Copy> Engine<A> for GameEngine {
@@ -1120,31 +1149,23 @@ fn follows(program: &Program<'_>, broken: Broken) -> bool {
     }
 }
 
-// Adds those of which this is so whether another instruction is mostly the cause.
-fn add<A: Allocator>(
-    program: &Program<'_>,
-    all: &[Broken],
-    wanted: bool,
-    ordered: &mut Vec<Broken, A>,
-) -> Result<(), AllocError> {
-    for broken in all {
-        if follows(program, *broken) == wanted {
-            ordered.push(*broken)?;
-        }
-    }
-    Ok(())
-}
-
 /// Returns the same places, those first that are mostly a cause.
-pub(crate) fn causes_first<A: Allocator>(
+pub(crate) fn causes_first<A: Allocator + Copy>(
     alloc: A,
     program: &Program<'_>,
     all: &[Broken],
 ) -> Result<Vec<Broken, A>, AllocError> {
-    let mut ordered = Vec::new(alloc);
-    add(program, all, false, &mut ordered)?;
-    add(program, all, true, &mut ordered)?;
-    Ok(ordered)
+    let mut causes = Vec::new(alloc);
+    let mut others: Vec<Broken, A> = Vec::new(alloc);
+    for broken in all {
+        if follows(program, *broken) {
+            others.push(*broken)?;
+        } else {
+            causes.push(*broken)?;
+        }
+    }
+    causes.extend_from_slice(others.as_slice())?;
+    Ok(causes)
 }
 }
 mod places {
@@ -1214,7 +1235,7 @@ pub(crate) fn routine(a: u16) -> &'static str {
 }
 mod program {
 //! A program that is told of.
-use dvg_game_check::{FIRST, Kind, Note, Step, kind_of, step_at};
+use dvg_game_check::{BYTES, FIRST, Kind, Note, Step, boot, kind_of, step_at};
 
 /// Where the program's bytes begin.
 const ROM: u32 = 0x6800;
@@ -1230,7 +1251,27 @@ pub(crate) struct Program<'a> {
     pub start: u32,
 }
 
+// Returns where a program starts, or 0.
+fn start_of(rom: &[u8]) -> u32 {
+    if rom.len() != BYTES {
+        return 0;
+    }
+    match boot(rom) {
+        Ok(start) => start,
+        Err(_) => 0,
+    }
+}
+
 impl<'a> Program<'a> {
+    /// Returns the program of these bytes, with these notes.
+    pub(crate) fn new(rom: &'a [u8], notes: &'a [Option<Note>]) -> Program<'a> {
+        Program {
+            rom,
+            notes,
+            start: start_of(rom),
+        }
+    }
+
     /// Returns the byte at an address, or 0 outside of the program.
     pub(crate) fn byte(&self, at: u32) -> u8 {
         match self.rom.get(at.wrapping_sub(ROM) as usize) {
@@ -1259,10 +1300,10 @@ impl<'a> Program<'a> {
 
     /// Returns where the instruction at an address leads, if code is there.
     pub(crate) fn step(&self, at: u32) -> Option<Step> {
-        match self.note(at) {
-            Some(_) if at < 65536 => Some(step_at(self.rom, at)),
-            _ => None,
+        if 65536 <= at || self.note(at).is_none() {
+            return None;
         }
+        Some(step_at(self.rom, at))
     }
 }
 }
@@ -1512,13 +1553,11 @@ use crate::told::{PlaceLine, Told};
 use crate::unseen::{place_of, tell_unseen};
 use crate::vectors::{tell_boot, tell_vectors};
 use dvg_code::OutOfMemory;
-use dvg_game_check::{Broken, Judged, Refusal, Unseen, Verdict, all_broken, boot};
+use dvg_game_check::{Broken, Judged, Note, Refusal, Unseen, Verdict, all_broken};
 use dvg_io::Text;
+use dvg_print::glyph;
 use std::alloc::Allocator;
 use std::fmt::{self, Write};
-
-/// The hexadecimal digits.
-const DIGITS: &[u8; 16] = b"0123456789ABCDEF";
 
 // Returns a line that begins with an address.
 fn line_at<A: Allocator>(
@@ -1527,10 +1566,10 @@ fn line_at<A: Allocator>(
     text: &[u8],
 ) -> Result<PlaceLine<A>, OutOfMemory> {
     let mut bytes = Vec::new(alloc);
-    bytes.push(DIGITS[(at / 4096 % 16) as usize])?;
-    bytes.push(DIGITS[(at / 256 % 16) as usize])?;
-    bytes.push(DIGITS[(at / 16 % 16) as usize])?;
-    bytes.push(DIGITS[(at % 16) as usize])?;
+    bytes.push(glyph((at / 4096 % 16) as usize))?;
+    bytes.push(glyph((at / 256 % 16) as usize))?;
+    bytes.push(glyph((at / 16 % 16) as usize))?;
+    bytes.push(glyph((at % 16) as usize))?;
     bytes.push(b':')?;
     bytes.push(b' ')?;
     bytes.extend_from_slice(text)?;
@@ -1657,14 +1696,16 @@ fn tell_driver<A: Allocator + Copy>(alloc: A) -> Result<Parts<A>, OutOfMemory> {
 // Returns what is told of a program whose instructions, or vectors, break a rule.
 fn tell_rules<A: Allocator + Copy>(
     alloc: A,
-    program: &Program<'_>,
+    rom: &[u8],
+    notes: &[Option<Note>],
 ) -> Result<Parts<A>, OutOfMemory> {
-    let all = all_broken(alloc, program.rom, program.notes)?;
-    let ordered = causes_first(alloc, program, all.as_slice())?;
-    let hints = Hints::new(alloc, program, ordered.as_slice())?;
-    let lines = lines_of(alloc, program, &hints, ordered.as_slice())?;
+    let program = Program::new(rom, notes);
+    let all = all_broken(alloc, rom, notes)?;
+    let ordered = causes_first(alloc, &program, all.as_slice())?;
+    let hints = Hints::new(alloc, &program, ordered.as_slice())?;
+    let lines = lines_of(alloc, &program, &hints, ordered.as_slice())?;
     let mut out = Text::new(alloc);
-    done(tell_vectors(&mut out, program))?;
+    done(tell_vectors(&mut out, &program))?;
     Ok(Parts {
         lines,
         more: out.into_bytes(),
@@ -1674,15 +1715,17 @@ fn tell_rules<A: Allocator + Copy>(
 // Returns what is told of a program that was judged so.
 fn parts_of<A: Allocator + Copy>(
     alloc: A,
-    program: &Program<'_>,
+    rom: &[u8],
     judged: &Judged<A>,
 ) -> Result<Parts<A>, OutOfMemory> {
+    let notes = judged.notes.as_slice();
+    let program = Program::new(rom, notes);
     match judged.verdict {
-        Verdict::Keeps(_) => tell_kept(alloc, program, judged),
-        Verdict::Unseen(_, why) => tell_gaps(alloc, program, judged, why),
+        Verdict::Keeps(_) => tell_kept(alloc, &program, judged),
+        Verdict::Unseen(_, why) => tell_gaps(alloc, &program, judged, why),
         Verdict::Refused(Refusal::Driver) => tell_driver(alloc),
-        Verdict::Refused(Refusal::Boot(at)) => tell_unbooted(alloc, program, at),
-        Verdict::Refused(_) => tell_rules(alloc, program),
+        Verdict::Refused(Refusal::Boot(at)) => tell_unbooted(alloc, &program, at),
+        Verdict::Refused(_) => tell_rules(alloc, rom, notes),
     }
 }
 
@@ -1694,32 +1737,18 @@ pub(crate) fn tell<A: Allocator + Copy>(
     judged: &Judged<A>,
     with_notes: bool,
 ) -> Result<Told<A>, OutOfMemory> {
-    let program = Program {
-        rom,
-        notes: judged.notes.as_slice(),
-        start: start_of(rom),
-    };
-    let parts = parts_of(alloc, &program, judged)?;
-    let mut more = parts.more;
+    let parts = parts_of(alloc, rom, judged)?;
+    let mut out = Text::new(alloc);
+    done(out.add(parts.more.as_slice()))?;
     if with_notes {
-        let mut out = Text::new(alloc);
+        let program = Program::new(rom, judged.notes.as_slice());
         done(tell_notes(&mut out, &program))?;
-        let text = out.into_bytes();
-        more.extend_from_slice(text.as_slice())?;
     }
     Ok(Told {
         verdict: judged.verdict,
         lines: parts.lines,
-        more,
+        more: out.into_bytes(),
     })
-}
-
-// Returns where a program starts, or 0.
-fn start_of(rom: &[u8]) -> u32 {
-    match boot(rom) {
-        Ok(start) => start,
-        Err(_) => 0,
-    }
 }
 }
 mod told {

@@ -543,9 +543,9 @@ static PAIRS: [u8; 512] =
     C8C9CACBCCCDCECFD0D1D2D3D4D5D6D7D8D9DADBDCDDDEDFE0E1E2E3E4E5E6E7E8E9EAEBECEDEEEF\
     F0F1F2F3F4F5F6F7F8F9FAFBFCFDFEFF";
 
-// Returns `digit`, 0 to 15, as a hexadecimal digit in upper case.
+/// Returns `digit`, 0 to 15, as a hexadecimal digit in upper case.
 #[inline(always)]
-pub(crate) fn glyph(digit: usize) -> u8 {
+pub fn glyph(digit: usize) -> u8 {
     b"0123456789ABCDEF"[digit]
 }
 
@@ -1285,7 +1285,7 @@ impl BoundedVerdict {
 
 pub use entry_lines::EntryLines;
 pub use instr_line::InstrLine;
-pub use line::{LINE_WORDS, Line};
+pub use line::{LINE_WORDS, Line, glyph};
 pub use log_verdict::{LogCounts, LogFinding, LogVerdict};
 pub use moment_verdict::{MomentVerdict, Reading};
 pub use stroke_lines::StrokeLines;

@@ -1,9 +1,10 @@
 use Rattle.std.proofs.Common.{rules, ◌≡◌}
 use Rattle.std.specs.Prelude.{false, true, IfSome}
 use Rattle.dvg_job.specs.declared.task.Job.TheVariants.{List as list_job, ListAt, Rom, Picture, PictureSvg, Check}
-use Rattle.dvg_job.specs.declared.task.Job.TheVariants.{Play, PlaySvg, Torn, Render, RenderCheck, Lay, Explain}
+use Rattle.dvg_job.specs.declared.task.Job.TheVariants.{Play, PlaySvg, Torn, Render, RenderCheck, Lay, Explain, Game}
 use Rattle.dvg_job.specs.declared.form.LogRule.TheVariants.{Halves, Moments, AllMoments}
 use Rattle.dvg_explain.specs.Findings.{Explains}
+use Rattle.dvg_game.specs.Telling.{JudgesGame}
 use Rattle.dvg_lay.specs.Checks.{ChecksSketch}
 use Rattle.dvg_lay.specs.DrawnSketches.{Draws}
 use Rattle.dvg_lay.specs.Sketches.{Lays}
@@ -18,7 +19,7 @@ use Rattle.dvg_tool.specs.Roms.{WritesRom}
 use Rattle.dvg_tool.specs.Checks.{Checks, ChecksBound}
 use Rattle.dvg_tool.specs.Plays.{Plays}
 use Rattle.dvg_tool.specs.PlaysSvg.{PlaysSvg}
-use Rattle.dvg_tool.specs.Reports.{of_explained, of_frames, of_made, of_bounded, of_log, of_moments, of_outcome, of_undrawn, of_verdict, written}
+use Rattle.dvg_tool.specs.Reports.{of_explained, of_frames, of_made, of_bounded, of_log, of_moments, of_outcome, of_told, of_undrawn, of_verdict, written}
 use Rattle.dvg_tool.proofs.Reported.{reports, reports_at}
 use Rattle.dvg_tool.proofs.jobs.perform.Goals as goal
 
@@ -127,3 +128,8 @@ pub returns-in-Explain-clause-performs : goal.returns-in-Explain-clause-performs
 returns-in-Explain-clause-performs g c =
     let asked : c.args.job ≡ Explain = search rules in
     rw asked (reports of_explained Explains c.explain.result c.reported-in-Explain.result _ _ _ c.reported-in-Explain.ensures c.explain.ensures.means)
+
+pub returns-in-Game-clause-performs : goal.returns-in-Game-clause-performs
+returns-in-Game-clause-performs g c =
+    let asked : c.args.job ≡ Game c.in-Game.notes = search rules in
+    rw asked (reports of_told JudgesGame c.game.result c.reported-in-Game.result _ _ _ c.reported-in-Game.ensures c.game.ensures.means)
