@@ -13,6 +13,7 @@ import hashlib
 import re
 import subprocess
 
+from at_home import passed_on
 from rooms import ROOT, crates_below, lines_of_crates
 
 KEPT = ROOT / "tests/refused"
@@ -21,6 +22,10 @@ PARTS = ("src", "specs", "proofs")
 EDITS = ("wrong-bodies.edits", "wrong-laws.edits")
 SUITE = ("tests/wrong_bodies", "tests/wrong_laws.py", "tests/rooms.py", "tests/copies.py",
          "tools/sources.py")
+# What decides only where wrong laws change definitions that the crate passes on: files of the suite,
+# and its lines that end so.
+FOR_PASSED_ON = ("tests/at_home.py", "tools/passed_on.py")
+IF_PASSED_ON = re.compile(rb"^.*# if passed on\n", re.M)
 SHARE = 4
 # A line of a source or of a definition that is a comment.
 COMMENT = re.compile(rb"^[ \t]*(?://|--).*\n", re.M)
@@ -41,12 +46,21 @@ def files_for(name, lines):
             yield from sorted(it for it in found if it.is_file())
     yield from (it for it in (ROOT / "crates" / name / edits for edits in EDITS) if it.exists())
     yield from (ROOT / it for it in SUITE)
+    yield from (ROOT / it for it in FOR_PASSED_ON if has_passed_on(name))
 
 
-def what_decides(file):
-    """What is in a file, without lines that are comments where it is Rattle's."""
+def has_passed_on(name):
+    """Whether a crate's wrong laws change definitions that it passes on."""
+    return bool(passed_on(ROOT / "crates" / name))
+
+
+def what_decides(file, name):
+    """What in a file decides what is said of a crate: without lines that are comments where it is
+    Rattle's, and without those of the suite that are for other crates."""
     text = file.read_bytes()
-    return COMMENT.sub(b"", text) if file.suffix in (".rt", ".antt") else text
+    if file.suffix in (".rt", ".antt"):
+        return COMMENT.sub(b"", text)
+    return text if has_passed_on(name) else IF_PASSED_ON.sub(b"", text)
 
 
 @functools.cache
@@ -58,7 +72,7 @@ def checksum(name):
     logic = printed("rt", "version").partition("logic ")[2].strip()
     digest = hashlib.sha256(f"{logic}\n{uses}\n".encode())
     for file in files_for(name, lines):
-        text = what_decides(file)
+        text = what_decides(file, name)
         digest.update(f"{file.relative_to(ROOT)} {len(text)}\n".encode())
         digest.update(text)
     return digest.hexdigest()

@@ -19,6 +19,7 @@ import re
 import shutil
 from dataclasses import dataclass
 
+from at_home import at_home  # if passed on
 from copies import functions_of
 from rooms import DEPENDENT, GONE, Unfit, check, make_room
 from sources import changes, texts_of
@@ -61,6 +62,7 @@ def changed_files(crate, said):
 
 def read_laws(crate, results):
     """The wrong laws of a crate's folder; a text that is none is a failure."""
+    crate = at_home(crate)  # if passed on
     laws = set(laws_of(crate))
     for name, said in texts_of(crate / EDITS):
         try:
@@ -123,6 +125,7 @@ def try_law(crate, proved, room, wrong, results):
 def begin(crate, room, results):
     """Reads the wrong laws of a crate's folder, and checks the laws as they are. Returns what tries
     each wrong law."""
+    crate = at_home(crate)  # if passed on
     wrong = list(read_laws(crate, results))
     if not wrong:
         return []

@@ -1404,7 +1404,7 @@ function zipsOf(files) {
 function testCave() {
   if (!hasTools) return console.log('skipped: the bytes of the cave: ca65 is not here');
   const folder = `${work}/cave/examples/cave`;
-  for (const name of ['board', 'examples/cave', 'crates/dvg_calls_6502/specs/Code.antt']) {
+  for (const name of ['board', 'examples/cave', 'crates/dvg_game_words/specs/Code.antt']) {
     cpSync(`${top}${name}`, `${work}/cave/${name}`, { recursive: true });
   }
   const made = spawnSync('make', ['-s', '-C', folder, 'proof', `DVG=${program}`],
