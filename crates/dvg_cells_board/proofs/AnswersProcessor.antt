@@ -138,6 +138,12 @@ asks_is true true true true true true on = refl
 asks_is true true true true true false true = refl
 asks_is true true true true true false false = refl
 
+takes_is : (p r s : Bool) → both (if p then 0 else some (if r then 1 else 0)) (if s then 1 else 0) ≡ bit (not p && (r && s))
+takes_is true r s = refl
+takes_is false false s = refl
+takes_is false true true = refl
+takes_is false true false = refl
+
 answers_by : (x y z shut : Bool) (r : ℕ) → mux (looks_of x y z) (joined 7 0 (none (if shut then 1 else 0))) r
     ≡ (if not x && (y && z) then (if nat_eq (if shut then 1 else 0) 0 then 128 else 0) else r)
 answers_by true y z shut r = refl
@@ -180,6 +186,7 @@ module _ (board : Board) (bus : Bus) (is : IsBus bus) where
         (nat_eq board.pending 0) (nat_eq bus.access 0) (nat_eq (part 11 5 bus.a) 8)
         ∙ ap (λ on. bit (nat_eq (halted board.core) 0 && (nat_eq bus.hold 0 && (nat_eq bus.reset 0
         && (nat_eq board.starting 0 && (nat_eq board.pending 0 && not (not (nat_eq bus.access 0) && on))))))) page;
+    takes = takes_is (nat_eq board.pending 0) (nat_eq bus.reset 0) (nat_eq board.starting 0);
     ram = λ a. ap (λ f. f a) (ram_is board bus)
         ∙ ram_steps (nat_eq bus.access 0) (nat_eq bus.write 0) (nat_eq (part 11 5 bus.a) 8) a
         ∙ ap (λ on. if (not (nat_eq bus.access 0) && (not (nat_eq bus.write 0) && on)) && nat_eq a (bus.a % 0x800)

@@ -3,7 +3,7 @@ use Rattle.std.specs.Prelude.{◌≡◌, ℕ, ◌+◌, ◌*◌, ◌/◌, ◌%◌
 use Rattle.std.specs.Prelude.{is_none}
 use Rattle.dvg_log.specs.Log.{Log, ram, open_run}
 use Rattle.dvg_cells_core.specs.Cells.{bit}
-use Rattle.dvg_cells_board.specs.Board.{Board, Bus, q, clock, halted, at, high}
+use Rattle.dvg_cells_board.specs.Board.{Board, Bus, q, clock, halted, takes, at, high}
 use Rattle.dvg_cells_board.specs.Clocks.{IsBus, after, reads, writes, sends}
 
 -- the processor uses the RAM in this clock
@@ -30,13 +30,15 @@ abbrev pub AnswersNext : List ℕ → (ℕ → ℕ) → Log → List Bus → Typ
 AnswersNext image held log clocks = (bus : Bus) → IsBus bus → Answers image (after held clocks) log bus
 
 -- a clock of any board, whatever came before it and whoever drives it: a strobe starts the core in the next clock, and
--- nothing else does; a byte is read for the core where nobody holds and all else leaves it alone, and nowhere else; and
--- the RAM is as it was, but for the byte that is written. In the next clock `q` is the flag after a read of 2002, and
--- after all else the byte that the RAM read last: the processor's, or the one at the core's place
+-- nothing else does; a byte is read for the core where nobody holds and all else leaves it alone, and nowhere else, and
+-- `takes` is high in the clock after it, unless that has a reset or a start; and the RAM is as it was, but for the byte
+-- that is written. In the next clock `q` is the flag after a read of 2002, and after all else the byte that the RAM read
+-- last: the processor's, or the one at the core's place
 pub record Works (board : Board) (bus : Bus) : Type 0 where
   pub starts : (clock board bus).starting ≡ bit (sends bus && nat_eq bus.reset 0)
   pub serves : (clock board bus).pending ≡ bit (nat_eq (halted board) 0 && (nat_eq bus.hold 0 && (nat_eq bus.reset 0
       && (nat_eq board.starting 0 && (nat_eq board.pending 0 && not (uses_ram bus))))))
+  pub takes : takes board bus ≡ bit (not (nat_eq board.pending 0) && (nat_eq bus.reset 0 && nat_eq board.starting 0))
   pub ram : (a : ℕ) → (clock board bus).ram a
       ≡ (if writes bus && nat_eq a (bus.a % 0x800) then bus.d else board.ram a)
   pub answers : (next : Bus) → q (clock board bus) next

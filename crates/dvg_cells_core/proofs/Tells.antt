@@ -2,7 +2,7 @@
 use Rattle.std.proofs.Common.{◌≡◌, ℕ, zero, suc, ◌+◌, ◌-◌, ◌*◌, ◌/◌, ◌%◌, ◌<◌, ◌≤◌, Bool, true, false, pos, ◌*ℤ◌}
 use Rattle.std.proofs.Common.{List, [], ◌∷◌, ◌++◌, Option, Some, None, refl, sym, ap, ◌∙◌, subst, arith, append-nil, ltb, inl, inr}
 use Rattle.std.specs.Prelude.{nat_eq, nat_lt, not, ◌⊎◌}
-use Rattle.std.proofs.lemmas.Bool.{cases_lt, lt-ltb, ne_eqb}
+use Rattle.std.proofs.lemmas.Bool.{cases_lt, le-ltb, lt-ltb, ne_eqb}
 use Rattle.std.proofs.lemmas.List.Elements.{All-head, All-tail}
 use Rattle.dvg_code.specs.Fields.{signed}
 use Rattle.dvg_code.specs.declared.instr.Instr.{Instr}
@@ -30,7 +30,7 @@ use Rattle.dvg_cells_core.specs.Refines
 use Rattle.dvg_cells_core.specs.Refines.{ArePins, after, drew, Tells, idles, ignores, fetches, byte_of, told_by}
 use Rattle.dvg_cells_core.proofs.Machines.{machine_of, kept}
 use Rattle.dvg_cells_core.proofs.CoreSincePowerUp.{Stands, stand, stand_next, agrees_of, one}
-use Rattle.dvg_cells_core.specs.Tells.{moves_of, TellsMove, TellsMoves, TellsKind, PinsTell, PinsRest}
+use Rattle.dvg_cells_core.specs.Tells.{moves_of, TellsMove, TellsMoves, TellsKind, PinsTell, PinsRest, sum_by}
 use Rattle.dvg_cells_core.proofs.Scaled.{stepped_to}
 
 -- a fetch: the moves that it adds, of which the pins tell
@@ -249,11 +249,26 @@ module _ (c : Core) (din : ℕ) (drew : List Stroke) (x_in : c.x < 2097152) (y_i
   kind_shut : (high second valid hole : ℕ) → (pin.ends (core 0 high second) (byte valid hole) ≡ 0) × (pin.jsrl (core 0 high second) (byte valid hole) ≡ 0)
   kind_shut high second valid hole = (refl, refl)
 
+  -- a vector's sum after a first word, which is a VCTR's
+  vctr_sum : pin.vec (core 1 1 1) (byte 1 0) ≡ 1 → pin.sum (core 1 1 1) (byte 1 0) ≡ sum_by (Some c.first) word c.scale
+  vctr_sum is = by (cases_lt (part 12 4 c.first) 10)
+    where
+      by : (part 12 4 c.first < 10) ⊎ (10 ≤ part 12 4 c.first) → pin.sum (core 1 1 1) (byte 1 0) ≡ sum_by (Some c.first) word c.scale
+      by (inl less) =
+          let op : ltb (part 12 4 c.first) 10 ≡ true = lt-ltb (part 12 4 c.first) 10 less in
+          let sum_is : add 4 c.scale (part 12 4 c.first) ≡ (c.scale + c.first / 4096) % 16 = omega arith in
+          rw op sum_is
+      by (inr more) =
+          let op : ltb (part 12 4 c.first) 10 ≡ false = le-ltb (part 12 4 c.first) 10 more in
+          let none_goes : pin.vec (core 1 1 1) (byte 1 0) ≡ 0 = rw op refl in
+          let never : ◌≡◌ {A = ℕ} 0 1 = sym none_goes ∙ is in absurd (cc)
+
   kind_word : (second : ℕ) → second < 2 → TellsKind (Some (Whole (Some word))) (kept second c.first) (core 1 1 second) (byte 1 0)
   kind_word zero small =
       let op : part 4 4 din ≡ word / 4096 = omega arith in
-      (ap (λ n. some (none (some (lt n 11)))) op ∙ both_not (nat_lt (word / 4096) 11), ap (λ n. some (some (eq n 12))) op ∙ both_is (nat_eq (word / 4096) 12))
-  kind_word (suc zero) small = (refl, refl)
+      let sum_is : add 4 c.scale (add 4 (joined 1 (part 3 1 din) (part 3 1 c.low)) 2) ≡ sum_by None word c.scale = omega arith in
+      (ap (λ n. some (none (some (lt n 11)))) op ∙ both_not (nat_lt (word / 4096) 11), ap (λ n. some (some (eq n 12))) op ∙ both_is (nat_eq (word / 4096) 12), λ is. sum_is)
+  kind_word (suc zero) small = (refl, refl, vctr_sum)
   kind_word (suc (suc n)) small = absurd (omega arith)
 
   kind_fetch : (high second hole : ℕ) → high < 2 → second < 2 → hole < 2

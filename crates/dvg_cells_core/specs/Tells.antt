@@ -1,5 +1,5 @@
 -- What the pins that tell of the clock itself tell: the moves of the run, one by one.
-use Rattle.std.specs.Prelude.{ℕ, ◌≡◌, ◌<◌, ◌*◌, ◌/◌, ◌⊎◌, nat_eq, nat_lt, not, Option, Some, None, ℤ, pos, ◌*ℤ◌, Bool}
+use Rattle.std.specs.Prelude.{ℕ, ◌≡◌, ◌<◌, ◌+◌, ◌*◌, ◌/◌, ◌%◌, ◌⊎◌, nat_eq, nat_lt, not, Option, Some, None, pos, ◌*ℤ◌, Bool}
 use Rattle.std.specs.Prelude.{true, false, List, [], ◌∷◌, ◌++◌, All}
 use Rattle.dvg_code.specs.Fields.{signed}
 use Rattle.dvg_gen.specs.declared.counters.Counters.{Counters}
@@ -47,16 +47,21 @@ abbrev pub jsrl_by : Option ℕ → ℕ → ℕ
 jsrl_by None word = bit (nat_eq (word / 4096) 12)
 jsrl_by (Some first) word = 0
 
+-- the sum of the global scale and a vector's own: two bits and 2 of an SVEC, the opcode of a VCTR's first word
+abbrev pub sum_by : Option ℕ → ℕ → ℕ → ℕ
+sum_by None word scale = (scale + (2 + 2 * (word / 8 % 2) + word / 2048 % 2)) % 16
+sum_by (Some first) word scale = (scale + first / 4096) % 16
+
 -- so the pins tell of what was met, after the first word of an instruction or after none
 abbrev pub TellsKind : Option Met → Option ℕ → Core → Pins → Type 0
 TellsKind (Some (Whole (Some word))) held core pins = (pin.ends core pins ≡ ends_by held word)
-    × (pin.jsrl core pins ≡ jsrl_by held word)
+    × (pin.jsrl core pins ≡ jsrl_by held word) × (vec core pins ≡ 1 → pin.sum core pins ≡ sum_by held word core.scale)
 TellsKind (Some (Whole None)) held core pins = (pin.ends core pins ≡ 0) × (pin.jsrl core pins ≡ 0)
 TellsKind (Some (Waits byte)) held core pins = (pin.ends core pins ≡ 0) × (pin.jsrl core pins ≡ 0)
 TellsKind None held core pins = (pin.ends core pins ≡ 0) × (pin.jsrl core pins ≡ 0)
 
 -- in each clock since power-up without a reset or a start, the run gains the moves that `vec` and
--- `labs` report, and `ends` and `jsrl` fit what the clock met
+-- `labs` report, and `ends`, `jsrl` and a vector's `sum` fit what the clock met
 abbrev pub PinsTell : Type 0
 PinsTell = (clocks : List Pins) (pins : Pins) → All ArePins (pins ∷ clocks) → pins.reset ≡ 0 → pins.start ≡ 0
     → (older : Agrees clocks) × (newer : Agrees (pins ∷ clocks)) × (added : List Move)

@@ -11,7 +11,7 @@ use Rattle.dvg_cells_board.specs.Board as board
 use Rattle.dvg_cells_motion.specs.Motion.{going}
 use Rattle.dvg_cells_motion.specs.Pace.{hold}
 use Rattle.dvg_cells_motion.specs.Vectors.{Vectors, Bus, drives_board, halted}
-use Rattle.dvg_cells_motion.specs.Machine.{IsBus, HasBytes, AreIdle, StartTakes, after, core_pins, own_ticks, ticks, vector_left}
+use Rattle.dvg_cells_motion.specs.Machine.{IsBus, HasBytes, AreIdle, OldVectorEnds, StartTakes, after, core_pins, own_ticks, ticks, vector_left}
 use Rattle.dvg_cells_motion.specs.Times.{left_ticks, StartsNone, ResetDraws}
 use Rattle.dvg_cells_motion.proofs.Machine.{Phase, rests, runs, waits, all_run, both_none, mux_same, unserved, stays, held_rests, none_is}
 use Rattle.dvg_cells_motion.proofs.Pictures.{both_is_zero, none_or}
@@ -228,31 +228,79 @@ module _ (held : ℕ → ℕ) (bytes : HasBytes held) (clocks : List Bus) (bus :
 pub reset_draws_law : ResetDraws
 reset_draws_law held bytes clocks bus later all reset none_more = draws held bytes clocks bus reset later all none_more
 
--- after a start, also amid a vector
-pub start_takes_law : StartTakes
-start_takes_law held bytes clocks bus later all starts idle =
+starts_left : (held : ℕ → ℕ) (bytes : HasBytes held) (clocks : List Bus) (bus : Bus)
+    → (core_pins (after held clocks) bus).reset ≡ 0 → (core_pins (after held clocks) bus).start ≡ 1
+    → (tied_clocks.after (tied held bytes (bus ∷ clocks))).pace.left ≡ 1
+starts_left held bytes clocks bus reset start = rw reset (rw start refl)
+
+starts_off : (held : ℕ → ℕ) (bytes : HasBytes held) (clocks : List Bus) (bus : Bus)
+    → (core_pins (after held clocks) bus).reset ≡ 0 → (core_pins (after held clocks) bus).start ≡ 1
+    → (tied_clocks.after (tied held bytes (bus ∷ clocks))).pace.ready ≡ 0
+starts_off held bytes clocks bus reset start = rw reset (rw start refl)
+
+-- after a start, also amid a vector: where all is after later clocks
+record Started (held : ℕ → ℕ) (bytes : HasBytes held) (clocks later : List Bus) (beside : Beside) : Type 0 where
+  own : beside.pace.left ≡ 1
+  goes : Goes beside
+  times : Times (tied_clocks.after (tied_later held bytes clocks later ++ tied held bytes clocks)) beside.pace.left
+      (beside.motion.last - beside.motion.count) beside.motion.count (tied_clocks.ticks_of (tied_later held bytes clocks later))
+
+started : (held : ℕ → ℕ) (bytes : HasBytes held) (clocks : List Bus) (bus : Bus) (later : List Bus)
+    → All IsBus (later ++ bus ∷ clocks) → board.starts (after held clocks).board (drives_board (after held clocks) bus) ≡ 1
+    → AreIdle held (bus ∷ clocks) later
+    → Started held bytes (bus ∷ clocks) later (tied_clocks.after (tied held bytes (bus ∷ clocks)))
+started held bytes clocks bus later all starts idle =
     let v = after held clocks in
     let here = all_older held bytes later (bus ∷ clocks) all in
     let before = wired held bytes clocks (All-tail IsBus bus clocks here) in
     let begins = starts_in held bytes v.board (drives_board v bus) before.sound.starting starts in
     let older = tied held bytes (bus ∷ clocks) in
-    let beside = tied_clocks.after older in
-    let own : beside.pace.left ≡ 1 = starts_left held bytes clocks bus begins.0 begins.1 in
-    let off : beside.pace.ready ≡ 0 = starts_off held bytes clocks bus begins.0 begins.1 in
+    let off = starts_off held bytes clocks bus begins.0 begins.1 in
     let goes = by_phase _ _ _ (all_run older (wired held bytes (bus ∷ clocks) here).served).led.phase in
-    let times = later_times older _ _ _ (few older) (begun beside off goes) (tied_later held bytes (bus ∷ clocks) later)
-    (idle_all held bytes (bus ∷ clocks) later all idle) in
-    held_same held bytes later bus clocks ∙ times.ready
-    ∙ ap (λ n. bit (leb n (left_of beside))) (ticks_same held bytes later (bus ∷ clocks))
-    ∙ ap (λ n. bit (leb (ticks later) (n + vector_left beside.motion))) own
-    ∙ ap (λ (b : Beside). bit (leb (ticks later) (1 + vector_left b.motion))) (sym (beside_is held bytes (bus ∷ clocks)))
-  where
-    starts_left : (held : ℕ → ℕ) (bytes : HasBytes held) (clocks : List Bus) (bus : Bus)
-        → (core_pins (after held clocks) bus).reset ≡ 0 → (core_pins (after held clocks) bus).start ≡ 1
-        → (tied_clocks.after (tied held bytes (bus ∷ clocks))).pace.left ≡ 1
-    starts_left held bytes clocks bus reset start = rw reset (rw start refl)
+    record {
+      own = starts_left held bytes clocks bus begins.0 begins.1;
+      goes = goes;
+      times = later_times older _ _ _ (few older) (begun (tied_clocks.after older) off goes) (tied_later held bytes (bus ∷ clocks) later)
+          (idle_all held bytes (bus ∷ clocks) later all idle);
+    }
 
-    starts_off : (held : ℕ → ℕ) (bytes : HasBytes held) (clocks : List Bus) (bus : Bus)
-        → (core_pins (after held clocks) bus).reset ≡ 0 → (core_pins (after held clocks) bus).start ≡ 1
-        → (tied_clocks.after (tied held bytes (bus ∷ clocks))).pace.ready ≡ 0
-    starts_off held bytes clocks bus reset start = rw reset (rw start refl)
+pub start_takes_law : StartTakes
+start_takes_law held bytes clocks bus later all starts idle =
+    let is = started held bytes clocks bus later all starts idle in
+    let beside = tied_clocks.after (tied held bytes (bus ∷ clocks)) in
+    held_same held bytes later bus clocks ∙ is.times.ready
+    ∙ ap (λ n. bit (leb n (left_of beside))) (ticks_same held bytes later (bus ∷ clocks))
+    ∙ ap (λ n. bit (leb (ticks later) (n + vector_left beside.motion))) is.own
+    ∙ ap (λ (b : Beside). bit (leb (ticks later) (1 + vector_left b.motion))) (sym (beside_is held bytes (bus ∷ clocks)))
+
+few_left : (beside : Beside) → Goes beside → vector_left beside.motion ≤ 1024
+few_left beside (inl over) = omega arith
+few_left beside (inr more) = let small = more.1 in omega arith
+
+enough : (k t own : ℕ) → own ≡ 1 → 1 + t ≤ k → t ≤ k - own
+enough k t own is more = omega arith
+
+pub old_vector_ends_law : OldVectorEnds
+old_vector_ends_law held bytes clocks bus later all starts idle = (
+  subst (λ (b : Beside). vector_left b.motion ≤ 1024) (sym same) (few_left beside is.goes),
+  λ more. ap (λ (b : Beside). going b.motion) ended ∙ ne_same _ _ (is.times.count
+      ∙ ap (λ n. beside.motion.count + n) (gone_ge (vector_left beside.motion) (k - beside.pace.left)
+      (enough k (vector_left beside.motion) beside.pace.left is.own
+      (subst (λ n. 1 + vector_left beside.motion ≤ n) (sym (ticks_same held bytes later (bus ∷ clocks)))
+      (subst (λ (b : Beside). 1 + vector_left b.motion ≤ ticks later) same more)))) ∙ sym is.times.last),
+)
+  where
+    is : Started held bytes (bus ∷ clocks) later (tied_clocks.after (tied held bytes (bus ∷ clocks)))
+    is = started held bytes clocks bus later all starts idle
+
+    beside : Beside
+    beside = tied_clocks.after (tied held bytes (bus ∷ clocks))
+
+    k : ℕ
+    k = tied_clocks.ticks_of (tied_later held bytes (bus ∷ clocks) later)
+
+    same : beside_of (after held (bus ∷ clocks)) ≡ beside
+    same = beside_is held bytes (bus ∷ clocks)
+
+    ended : beside_of (after held (later ++ bus ∷ clocks)) ≡ tied_clocks.after (tied_later held bytes (bus ∷ clocks) later ++ tied held bytes (bus ∷ clocks))
+    ended = beside_is held bytes (later ++ bus ∷ clocks) ∙ ap tied_clocks.after (tied_both held bytes later (bus ∷ clocks))

@@ -267,9 +267,17 @@ later_times older own t base few at (b ∷ later) idle =
     onward (core_after (later ++ older)) (after (later ++ older)) b (All-head IsIdle b later idle) own t base (ticks_of later)
     few (later_times older own t base few at later (All-tail IsIdle b later idle))
 
+rests_by : (left own k : ℕ) → left ≡ own - k → none left ≡ bit (leb own k)
+rests_by left own k is = by (cases_lt k own)
+  where
+    by : (k < own) ⊎ (own ≤ k) → none left ≡ bit (leb own k)
+    by (inl less) = none_more left (omega arith) ∙ ap bit (sym (lt-leb own k less))
+    by (inr over) = let none_left : left ≡ 0 = omega arith in ap none none_left ∙ ap bit (sym (le-leb own k over))
+
 pub takes_time_tied : TakesTime
 takes_time_tied clocks bus later are valid reset start idle =
     let begun = by_goes clocks bus are valid reset start (vec (core_after clocks) bus.pins) refl in
     let own = own_ticks (jsrl (core_after clocks) bus.pins) (ends (core_after clocks) bus.pins) in
-    (later_times (bus ∷ clocks) own (vector_ticks (vec (core_after clocks) bus.pins) (core.sum (core_after clocks) bus.pins)) begun.0
-    (own_few (jsrl (core_after clocks) bus.pins) (ends (core_after clocks) bus.pins)) begun.1 later idle).ready
+    let times = later_times (bus ∷ clocks) own (vector_ticks (vec (core_after clocks) bus.pins) (core.sum (core_after clocks) bus.pins)) begun.0
+    (own_few (jsrl (core_after clocks) bus.pins) (ends (core_after clocks) bus.pins)) begun.1 later idle in
+    (times.ready, rests_by _ own (ticks_of later) times.left)

@@ -93,6 +93,8 @@ ticks_of (bus ∷ clocks) = ticks_of clocks + bus.tick
 abbrev pub TakesTime : Type 0
 TakesTime = (clocks : List Bus) (bus : Bus) (later : List Bus) → AreServed (bus ∷ clocks) → bus.pins.valid ≡ 1 → bus.pins.reset ≡ 0
     → bus.pins.start ≡ 0 → All IsIdle later
-    → hold (after (later ++ bus ∷ clocks)).pace ≡ bit (nat_le (ticks_of later)
+    → (hold (after (later ++ bus ∷ clocks)).pace ≡ bit (nat_le (ticks_of later)
     (own_ticks (jsrl (core_after clocks) bus.pins) (ends (core_after clocks) bus.pins)
-    + vector_ticks (vec (core_after clocks) bus.pins) (core.sum (core_after clocks) bus.pins)))
+    + vector_ticks (vec (core_after clocks) bus.pins) (core.sum (core_after clocks) bus.pins))))
+    × (pace.rests (after (later ++ bus ∷ clocks)).pace
+    ≡ bit (nat_le (own_ticks (jsrl (core_after clocks) bus.pins) (ends (core_after clocks) bus.pins)) (ticks_of later)))

@@ -19,7 +19,7 @@ use Rattle.dvg_cells_motion.specs.Pace.{hold}
 use Rattle.dvg_cells_motion.specs.Pace as pace
 use Rattle.dvg_cells_motion.specs.Vectors.{Vectors, Bus, halted, drives_board}
 use Rattle.dvg_cells_motion.specs.Pulses.{counters_of}
-use Rattle.dvg_cells_motion.specs.Machine.{IsBus, HasBytes, after, core_pins, cores, CountersFollow, MachineFollows, HaltedTells, AreIdle, ticks, ticks_of_byte}
+use Rattle.dvg_cells_motion.specs.Machine.{IsBus, HasBytes, after, core_pins, cores, CountersFollow, MachineFollows, HaltedTells, AreIdle, ticks, own_ticks_of_byte, ticks_of_byte}
 use Rattle.dvg_cells_motion.specs.Machine.{own_ticks, vector_ticks, TakesTime}
 use Rattle.dvg_cells_motion.proofs.Tied.{Beside, paced, driven, core_after, AreServed, IsServed, IsIdle, ticks_of}
 use Rattle.dvg_cells_motion.proofs.Tied as tied_clocks
@@ -297,7 +297,8 @@ module _ (held : ℕ → ℕ) (bytes : HasBytes held) where
 
   times : (clocks : List Bus) (bus : Bus) (later : List Bus) → All IsBus (later ++ bus ∷ clocks)
       → board.takes (after held clocks).board (drives_board (after held clocks) bus) ≡ 1 → AreIdle held (bus ∷ clocks) later
-      → hold (after held (later ++ bus ∷ clocks)).pace ≡ bit (nat_le (ticks later) (ticks_of_byte (after held clocks) bus))
+      → (hold (after held (later ++ bus ∷ clocks)).pace ≡ bit (nat_le (ticks later) (ticks_of_byte (after held clocks) bus)))
+      × (pace.rests (after held (later ++ bus ∷ clocks)).pace ≡ bit (nat_le (own_ticks_of_byte (after held clocks) bus) (ticks later)))
   times clocks bus later all takes idle =
       let v = after held clocks in
       let newer = all_older later (bus ∷ clocks) all in
@@ -306,12 +307,16 @@ module _ (held : ℕ → ℕ) (bytes : HasBytes held) where
       let served = serves_in v.board (drives_board v bus) before.sound.pending takes in
       let is = takes_time_tied (tied clocks) (tied_bus v bus) (tied_later (bus ∷ clocks) later) was.served served.0 served.1 served.2
       (idle_all (bus ∷ clocks) later all idle) in
-      let pins = core_pins v bus in
-      held_same later bus clocks ∙ is
-      ∙ ap (λ n. bit (nat_le n (own_ticks (core.jsrl (core_after (tied clocks)) pins) (core.ends (core_after (tied clocks)) pins)
-      + vector_ticks (core.vec (core_after (tied clocks)) pins) (core.sum (core_after (tied clocks)) pins)))) (ticks_same later (bus ∷ clocks))
-      ∙ ap (λ c. bit (nat_le (ticks later) (own_ticks (core.jsrl c pins) (core.ends c pins) + vector_ticks (core.vec c pins) (core.sum c pins))))
-      (sym (core_is clocks))
+      let pins = core_pins v bus in (
+        held_same later bus clocks ∙ is.0
+            ∙ ap (λ n. bit (nat_le n (own_ticks (core.jsrl (core_after (tied clocks)) pins) (core.ends (core_after (tied clocks)) pins)
+            + vector_ticks (core.vec (core_after (tied clocks)) pins) (core.sum (core_after (tied clocks)) pins)))) (ticks_same later (bus ∷ clocks))
+            ∙ ap (λ c. bit (nat_le (ticks later) (own_ticks (core.jsrl c pins) (core.ends c pins) + vector_ticks (core.vec c pins) (core.sum c pins))))
+            (sym (core_is clocks)),
+        ap (λ k. pace.rests k.pace) (beside_is (later ++ bus ∷ clocks)) ∙ ap (λ l. pace.rests (tied_clocks.after l).pace) (tied_both later (bus ∷ clocks))
+            ∙ is.1 ∙ ap (λ n. bit (nat_le (own_ticks (core.jsrl (core_after (tied clocks)) pins) (core.ends (core_after (tied clocks)) pins)) n)) (ticks_same later (bus ∷ clocks))
+            ∙ ap (λ c. bit (nat_le (own_ticks (core.jsrl c pins) (core.ends c pins)) (ticks later))) (sym (core_is clocks)),
+      )
 
   halts : (clocks : List Bus) → All IsBus clocks → halted (after held clocks) ≡ 1
       → (is : CountersFollow (cores held clocks) (after held clocks).pace (after held clocks).motion)

@@ -1,5 +1,5 @@
 -- The whole machine of core/dvg_vectors.v: where its counters are, and how long its bytes take.
-use Rattle.std.specs.Prelude.{ℕ, ◌+◌, ◌-◌, ◌≡◌, ◌<◌, ◌⊎◌, nat_eq, nat_le, if◌then◌else◌, false, All, List, [], ◌∷◌, ◌++◌}
+use Rattle.std.specs.Prelude.{ℕ, ◌+◌, ◌-◌, ◌≡◌, ◌<◌, ◌⊎◌, ◌≤◌, nat_eq, nat_le, if◌then◌else◌, false, All, List, [], ◌∷◌, ◌++◌}
 use Rattle.dvg_gen.specs.declared.counters.Counters.{Counters}
 use Rattle.dvg_gen.specs.Counting.{followed_all}
 use Rattle.dvg_cells_core.specs.Cells.{bit, mux}
@@ -82,11 +82,15 @@ own_ticks jsrl ends = mux jsrl 2 (mux ends 1 0)
 abbrev pub vector_ticks : (vec sum : ℕ) → ℕ
 vector_ticks vec sum = if nat_eq vec 0 then 0 else time sum
 
--- all ticks of the byte that is taken in a clock, but that in which it is fetched
+-- the own ticks of the byte that is taken in a clock; and all of its ticks, but that in which it is fetched
+abbrev pub own_ticks_of_byte : Vectors → Bus → ℕ
+own_ticks_of_byte vectors bus =
+    let driven = drives_board vectors bus in own_ticks (jsrl vectors.board driven) (ends vectors.board driven)
+
 abbrev pub ticks_of_byte : Vectors → Bus → ℕ
 ticks_of_byte vectors bus =
     let driven = drives_board vectors bus in
-    own_ticks (jsrl vectors.board driven) (ends vectors.board driven)
+    own_ticks_of_byte vectors bus
     + vector_ticks (vec vectors.board driven) (board.sum vectors.board driven)
 
 -- in how many of these clocks `tick` was high
@@ -102,13 +106,14 @@ AreIdle held clocks (bus ∷ later) =
     (takes vectors.board (drives_board vectors bus) ≡ 0) × (board.starts vectors.board (drives_board vectors bus) ≡ 0)
     × (bus.reset ≡ 0) × AreIdle held clocks later
 
--- after a byte `hold` is high until as many ticks came as it has, and one more
+-- after a byte `hold` is high until as many ticks came as it has, and one more; an instruction's own ticks come first, and
+-- until they came `rests` is low
 abbrev pub TakesTime : Type 0
 TakesTime = (held : ℕ → ℕ) → HasBytes held → (clocks : List Bus) (bus : Bus) (later : List Bus)
     → All IsBus (later ++ bus ∷ clocks) → takes (after held clocks).board (drives_board (after held clocks) bus) ≡ 1
     → AreIdle held (bus ∷ clocks) later
-    → hold (after held (later ++ bus ∷ clocks)).pace
-    ≡ bit (nat_le (ticks later) (ticks_of_byte (after held clocks) bus))
+    → (hold (after held (later ++ bus ∷ clocks)).pace ≡ bit (nat_le (ticks later) (ticks_of_byte (after held clocks) bus)))
+    × (rests (after held (later ++ bus ∷ clocks)).pace ≡ bit (nat_le (own_ticks_of_byte (after held clocks) bus) (ticks later)))
 
 -- the ticks that a vector which goes has left
 abbrev pub vector_left : Motion → ℕ
@@ -120,3 +125,12 @@ StartTakes = (held : ℕ → ℕ) → HasBytes held → (clocks : List Bus) (bus
     → All IsBus (later ++ bus ∷ clocks) → board.starts (after held clocks).board (drives_board (after held clocks) bus) ≡ 1
     → AreIdle held (bus ∷ clocks) later → hold (after held (later ++ bus ∷ clocks)).pace
     ≡ bit (nat_le (ticks later) (1 + vector_left (after held (bus ∷ clocks)).motion))
+
+-- a vector that goes when a run starts, as after a reset, is over once the start's own tick came and those that it had
+-- left, of which there are 1,024 at most
+abbrev pub OldVectorEnds : Type 0
+OldVectorEnds = (held : ℕ → ℕ) → HasBytes held → (clocks : List Bus) (bus : Bus) (later : List Bus)
+    → All IsBus (later ++ bus ∷ clocks) → board.starts (after held clocks).board (drives_board (after held clocks) bus) ≡ 1
+    → AreIdle held (bus ∷ clocks) later → (vector_left (after held (bus ∷ clocks)).motion ≤ 1024)
+    × (1 + vector_left (after held (bus ∷ clocks)).motion ≤ ticks later
+    → going (after held (later ++ bus ∷ clocks)).motion ≡ 0)

@@ -10,7 +10,7 @@ use Rattle.dvg_gen.specs.Drawing.{unit}
 use Rattle.dvg_gen.specs.Moving.{made}
 use Rattle.dvg_gen.specs.Position.{IsBeam}
 use Rattle.dvg_cells_core.specs.Cells.{mux, part, bit, some}
-use Rattle.dvg_cells_motion.specs.Motion.{Motion, Pins, clock, going, dac_x, dac_y, lit, shown_z}
+use Rattle.dvg_cells_motion.specs.Motion.{Motion, Pins, zeros, clock, going, dac_x, dac_y, lit, shown_z}
 
 -- a binary rate multiplier: if bit k is the lowest 0 of the count, bit 9 - k of the rate; else 0
 abbrev pub pulse : ℕ → ℕ → ℕ
@@ -133,3 +133,12 @@ Shows = (motion : Motion) (pins : Pins) (clocks : List Pins) → Fits motion →
     × (dac_y (moved motion pins clocks) ≡ (moved motion pins clocks).y % 1024)
     × (shown_z (moved motion pins clocks) ≡ visible (nat_lt (ticks clocks) (time pins.sum)) (moved motion pins clocks).x (moved motion pins clocks).y pins.z)
     × (lit (moved motion pins clocks) ≡ some (shown_z (moved motion pins clocks)))
+
+-- where no vector goes it is dark, and none begins but by `vec`: so it is dark from power-up on, at a LABS and after it
+abbrev pub StaysDark : Type 0
+StaysDark = (motion : Motion) (pins : Pins) → going motion ≡ 0
+    → (shown_z motion ≡ 0) × (lit motion ≡ 0) × (going zeros ≡ 0) × (pins.vec ≡ 0 → going (clock motion pins) ≡ 0)
+
+-- in each state the DACs have the lower ten bits of the counters
+abbrev pub DacsShow : Type 0
+DacsShow = (motion : Motion) → Fits motion → (dac_x motion ≡ motion.x % 1024) × (dac_y motion ≡ motion.y % 1024)

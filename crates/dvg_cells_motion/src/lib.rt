@@ -10,9 +10,9 @@
 
 ghost use Rattle.dvg_cells_motion.specs.Example.{SomeMotion, SomePicture};
 ghost use Rattle.dvg_cells_motion.specs.Machine.{HaltedTells, MachineFollows, StartTakes};
-ghost use Rattle.dvg_cells_motion.specs.Machine.{TakesTime};
-ghost use Rattle.dvg_cells_motion.specs.Pulses.{FollowsSvec, FollowsVctr, GoesByPulses, MovesRight};
-ghost use Rattle.dvg_cells_motion.specs.Pulses.{Places, PulsesAre, Shows};
+ghost use Rattle.dvg_cells_motion.specs.Machine.{OldVectorEnds, TakesTime};
+ghost use Rattle.dvg_cells_motion.specs.Pulses.{DacsShow, FollowsSvec, FollowsVctr, GoesByPulses};
+ghost use Rattle.dvg_cells_motion.specs.Pulses.{MovesRight, Places, PulsesAre, Shows, StaysDark};
 ghost use Rattle.dvg_cells_motion.specs.Shown.{ShowsParts};
 ghost use Rattle.dvg_cells_motion.specs.Times.{ResetDraws, TakesPicture};
 
@@ -34,6 +34,13 @@ pub fn goes_by_pulses()
 /// both is 0; after the last tick it is dark.
 pub fn shows()
     ensures { Shows }
+{}
+
+/// Where no vector goes it is dark: from power-up on, at a LABS, and after it. There, too, the DACs
+/// have ten bits of each counter.
+pub fn stays_dark()
+    ensures dark { StaysDark }
+    ensures dacs { DacsShow }
 {}
 
 /// After a vector the counters are those that the definition of the generator gives, and stay so.
@@ -64,9 +71,8 @@ pub fn halted_tells()
 {}
 
 /// Once a byte is taken, `hold` is high for the ticks of the instruction that it ends, if any: one
-/// tick, or two for a JSRL, and then those of a vector, however short the vector is. In the tick
-/// after these a byte may be fetched again.
-#[tactic(auto, using(crate::proofs::Wiring::takes_time_law))]
+/// tick, or two for a JSRL, in which the beam is dark, and then those of a vector, however short it
+/// is. In the tick after these a byte may be fetched again.
 pub fn takes_time()
     ensures { TakesTime }
 {}
@@ -75,6 +81,12 @@ pub fn takes_time()
 #[tactic(auto, using(crate::proofs::Resets::start_takes_law))]
 pub fn start_takes()
     ensures { StartTakes }
+{}
+
+/// A vector that goes when a run starts, as after a reset, is lit in that run for as many ticks as
+/// it had left, 1,024 at most. No byte of the run is taken before (`start_takes`).
+pub fn old_vector_ends()
+    ensures { OldVectorEnds }
 {}
 
 /// A picture's time: from a start where `halted` is high to the next clock in which it is, as many

@@ -6,11 +6,12 @@ use Rattle.dvg_gen.specs.Counting.{followed_all}
 use Rattle.dvg_cells_core.specs.Refines.{Agrees}
 use Rattle.dvg_cells_core.specs.Tells.{moves_of}
 use Rattle.dvg_cells_board.specs.Board.{starts}
+use Rattle.dvg_cells_motion.specs.Motion.{going}
 use Rattle.dvg_cells_motion.specs.Vectors as vectors
 use Rattle.dvg_cells_motion.specs.Machine.{CountersFollow, cores, ticks}
 use Rattle.dvg_cells_motion.specs.Pulses.{counters_of}
 use Rattle.dvg_cells_motion.specs.Times.{GoOn, late, run_ticks}
-use Rattle.dvg_game_circuit.specs.Game.{Bus, halted, drives_vectors}
+use Rattle.dvg_game_circuit.specs.Game.{Game, Bus, halted, lit, z, drives_vectors}
 use Rattle.dvg_game_circuit.specs.Circuit.{Held, IsBus, IsLoaded, after, vector_clocks}
 use Rattle.dvg_game_circuit.specs.Around.{takes}
 
@@ -56,3 +57,7 @@ CircuitTakesPicture = OfEachCircuit (λ held. (clocks : List Bus) (bus : Bus) (l
     → (is : Agrees (cores held.ram (new ++ first ∷ old)))
     × (fate is.run.visits ≡ Finished → ticks new ≡ run_ticks is.run.first is.run.visits + late held.ram (first ∷ old) new)
     × (AreCyclesInTicks (bus ∷ clocks) later → late held.ram (first ∷ old) new ≡ 0))
+
+-- it is dark where no vector goes, whatever came before
+abbrev pub CircuitIsDark : Type 0
+CircuitIsDark = (game : Game) → going game.vectors.motion ≡ 0 → (lit game ≡ 0) × (z game ≡ 0)

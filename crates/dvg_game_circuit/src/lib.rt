@@ -7,7 +7,7 @@
 ghost use Rattle.dvg_game_circuit.specs.Around.{BoardGoesAround};
 ghost use Rattle.dvg_game_circuit.specs.Laws.{Asteroid, CircuitsAreWhole, CircuitsKeepByBytes};
 ghost use Rattle.dvg_game_circuit.specs.Laws.{GamesLoad, Rocks};
-ghost use Rattle.dvg_game_circuit.specs.Pictures.{CircuitDraws, CircuitTakesPicture};
+ghost use Rattle.dvg_game_circuit.specs.Pictures.{CircuitDraws, CircuitIsDark, CircuitTakesPicture};
 ghost use Rattle.dvg_game_circuit.specs.Shown.{ShowsParts};
 
 use dvg_cells_motion::{halted_tells, machine_follows, takes_picture};
@@ -76,6 +76,11 @@ pub fn circuit_draws()
     machine_follows();
     halted_tells();
 }
+
+/// Where no vector goes its beam is dark.
+pub fn circuit_is_dark()
+    ensures { CircuitIsDark }
+{}
 
 /// A picture of the circuit takes as many ticks as its instructions add up to, where the
 /// processor's cycles begin with ticks, as on the arcade's board.

@@ -32,12 +32,12 @@ LAWS = {"dvg_cells_core": ["core_refines", "pins_tell"],
         "dvg_cells_cpu": ["cpu_refines", "cpu_stays", "cpu_waits", "cpu_interrupts", "cpu_resets",
                           "cpu_fits"],
         "dvg_cells_board": ["board_keeps", "board_answers", "board_shows", "board_works"],
-        "dvg_cells_motion": ["goes_by_pulses", "shows", "moves_right", "follows", "machine_follows",
-                             "halted_tells", "takes_time", "start_takes", "takes_picture",
-                             "reset_draws", "vectors_show"],
+        "dvg_cells_motion": ["goes_by_pulses", "shows", "stays_dark", "moves_right", "follows",
+                             "machine_follows", "halted_tells", "takes_time", "start_takes",
+                             "old_vector_ends", "takes_picture", "reset_draws", "vectors_show"],
         "dvg_calls_cells": ["cells_step", "cells_keep", "goes_on", "reset_waits", "machine_shows"],
         "dvg_game_circuit": ["circuits_are_whole", "circuits_keep_by_bytes", "circuit_shows",
-                             "board_goes_around"]}
+                             "board_goes_around", "circuit_is_dark"]}
 
 # The verdicts that a mistake may get, if another one than that it is refused.
 WANTED = {"none": ["refused", "proved"], "nobody": ["proved"]}

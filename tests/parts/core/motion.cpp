@@ -63,6 +63,8 @@ static void place()
     circuit.eval();
     edge(circuit);
     circuit.places = 0;
+    circuit.eval();
+    agree_on_pins();
     counts.placed++;
 }
 
