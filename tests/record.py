@@ -22,8 +22,8 @@ PARTS = ("src", "specs", "proofs")
 EDITS = ("wrong-bodies.edits", "wrong-laws.edits")
 SUITE = ("tests/wrong_bodies", "tests/wrong_laws.py", "tests/rooms.py", "tests/copies.py",
          "tools/sources.py")
-# What decides only where wrong laws change definitions that the crate passes on: files of the suite,
-# and its lines that end so.
+# What decides only where wrong laws change definitions that the crate passes on: files of the
+# suite, and its lines that end so.
 FOR_PASSED_ON = ("tests/at_home.py", "tools/passed_on.py")
 IF_PASSED_ON = re.compile(rb"^.*# if passed on\n", re.M)
 SHARE = 4

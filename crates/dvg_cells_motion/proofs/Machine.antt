@@ -94,6 +94,14 @@ pub mux_same : (s a : ℕ) → mux s a a ≡ a
 mux_same zero a = refl
 mux_same (suc s) a = rw (ne_eqb (suc s) 0 (λ e. absurd (omega arith))) refl
 
+pub stays_dark_law : Pulses.StaysDark
+stays_dark_law motion pins still = (
+  rw still refl,
+  rw still refl,
+  refl,
+  λ vec. rw vec (rw still (rw (mux_same pins.places motion.count) (rw (mux_same pins.places motion.last) still))),
+)
+
 pub both_small : (a b : ℕ) → both a b < 2
 both_small zero b = omega arith
 both_small (suc a) zero = rw (ne_eqb (suc a) 0 (λ e. absurd (omega arith))) (omega arith)

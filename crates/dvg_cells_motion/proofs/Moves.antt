@@ -14,7 +14,7 @@ use Rattle.dvg_gen.proofs.Counted.{counted_step}
 use Rattle.dvg_cells_core.specs.Cells.{mux, part, bit, add, sub, shl, both, some, none}
 use Rattle.dvg_cells_motion.specs.Motion.{Motion, Pins, clock, going}
 use Rattle.dvg_cells_motion.specs.Pulses.{pulse, pulses, led, IsQuiet, IsVector, after, ticks, time, within, counters_of, Fits, moved}
-use Rattle.dvg_cells_motion.specs.Pulses.{GoesByPulses, MovesRight, Shows, visible, FollowsVctr, FollowsSvec, Places}
+use Rattle.dvg_cells_motion.specs.Pulses.{DacsShow, GoesByPulses, MovesRight, Shows, visible, FollowsVctr, FollowsSvec, Places}
 use Rattle.dvg_cells_motion.proofs.Ticks.{pulses_are}
 
 -- a pulse is one bit
@@ -256,6 +256,9 @@ seen_by true x y z = by (eqb (part 10 1 x) 0) (eqb (part 10 1 y) 0) z refl refl
 
 low_ten : (x : ℕ) → part 0 10 x ≡ x % 1024
 low_ten x = omega arith
+
+pub dacs_law : DacsShow
+dacs_law motion fits = (low_ten motion.x, low_ten motion.y)
 
 both_dark : (a : ℕ) → both a 0 ≡ 0
 both_dark zero = refl

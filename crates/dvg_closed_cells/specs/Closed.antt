@@ -16,7 +16,7 @@ use Rattle.dvg_closed_board.specs.BatContent as bat_content
 use Rattle.dvg_closed_board.specs.AsteroidContent as asteroid_content
 use Rattle.dvg_closed_board.specs.RocksContent as rocks_content
 use Rattle.dvg_closed_board.specs.TestRomContent as test_rom_content
-use Rattle.dvg_game_cells.specs.Whole.{IsWhole}
+use Rattle.dvg_game_cells.specs.Whole.{IsCellsRun}
 use Rattle.dvg_game_cells.specs.Keeps.{CellsKeep}
 
 -- where two tests of a game's bytes say so, with notes of them that nobody has to trust, each run of the cells keeps this
@@ -24,12 +24,12 @@ abbrev pub GamesOnCellsKeepByBytes : Type 0
 GamesOnCellsKeepByBytes = (R image : List ℕ) (held rom : ℕ → ℕ) (start : ℕ) (notes : Notes) (ways : Ways)
     (drafts : ℕ → List OpKind) → accepts rom start notes ≡ true → brings R rom start notes ways drafts ≡ true
     → (machine : Machine) (work : ℕ → ℕ) (calm : ℕ) (clocks : List Bus)
-    → IsWhole R image held rom machine work calm clocks → CellsKeep R image held rom start machine clocks
+    → IsCellsRun R image held rom machine work calm clocks → CellsKeep R image held rom start machine clocks
 
 -- of a game: each run of the cells with these bytes, whatever stands beside them, and with this vector ROM
 abbrev pub KeepsOnCells : (R : List ℕ) → (rom : (ℕ → ℕ) → ℕ → ℕ) → (start : ℕ) → Type 0
 KeepsOnCells R rom start = (other : ℕ → ℕ) (image : List ℕ) (held : ℕ → ℕ) (machine : Machine) (work : ℕ → ℕ) (calm : ℕ)
-    (clocks : List Bus) → IsWhole R image held (rom other) machine work calm clocks
+    (clocks : List Bus) → IsCellsRun R image held (rom other) machine work calm clocks
     → CellsKeep R image held (rom other) start machine clocks
 
 abbrev pub First : Type 0
@@ -51,7 +51,7 @@ TestRom = KeepsOnCells test_rom_content.shapes test_rom.rom test_rom.start
 abbrev pub PoweredOn : (R : List ℕ) → (rom : (ℕ → ℕ) → ℕ → ℕ) → Type 0
 PoweredOn R rom = (other : ℕ → ℕ) (image : List ℕ) (held work : ℕ → ℕ) (calm : ℕ) → ((b : ℕ) → other b < 256)
     → IsImage image → ((a : ℕ) → a < 2048 → held a ≡ slice_index image a) → ((a : ℕ) → held a < 256)
-    → ((a : ℕ) → work a < 256) → IsWhole R image held (rom other) (powered held) work calm []
+    → ((a : ℕ) → work a < 256) → IsCellsRun R image held (rom other) (powered held) work calm []
 
 abbrev pub CanBePowered : Type 0
 CanBePowered = PoweredOn first_content.shapes first.rom × PoweredOn bat_content.shapes bat.rom

@@ -29,7 +29,7 @@ use Rattle.dvg_calls_board.specs.Machine.{OfEachMachine}
 use Rattle.dvg_game_board.specs.Cabinet.{IsCabinet, powers, resets, waits, ClocksDrawAlike, DrawAlike, none, same, elsewhere}
 use Rattle.dvg_game_board.specs.Keeps.{GameKeepsHeadline, GamesKeep, VectorsKeep}
 use Rattle.dvg_game_board.proofs.SharedRam.{Laws}
-use Rattle.dvg_game_cells.specs.Whole.{IsDriven, IsWhole, Finds, calm_after, work_after}
+use Rattle.dvg_game_cells.specs.Whole.{IsDriven, IsCellsRun, Finds, calm_after, work_after}
 use Rattle.dvg_game_cells.specs.Whole as whole
 use Rattle.dvg_game_cells.specs.Keeps.{AreBooting, CellsKeep, GamesOnCellsKeep, StandAt, VectorsOnCellsKeep}
 use Rattle.dvg_game_cells.specs.GoesOn.{answer}
@@ -411,7 +411,7 @@ module _ (laws : Laws) (R image : List ℕ) (held rom : ℕ → ℕ) (start : �
       second_clock s first driven_so pins.reset pins.ready (drive_of pins) asks.reset asks.ready asks
 
   now : {machine : Machine} {work : ℕ → ℕ} {calm : ℕ} {clocks : List Bus}
-      → IsWhole R image held rom machine work calm clocks → Now machine work calm clocks
+      → IsCellsRun R image held rom machine work calm clocks → Now machine work calm clocks
   now (whole.powers work calm is_rom is_image first held_in work_in rom_in) =
       rests (anew None zeros work calm [] (powers is_rom is_image first) is_rom
       (record { of_cells = fits.0; of_board = record { read = lit< tt; ran = lit< tt; ram = held_in } }) work_in rom_in refl refl)
@@ -477,7 +477,7 @@ module _ (laws : Laws) (R image : List ℕ) (held rom : ℕ → ℕ) (start : �
   of_cabinet : OfEachMachine (λ R image held calls log clocks. HoldsRam image held log clocks)
       → ((spot : Option (Cpu × ℕ)) (clocks : List Bus) → On spot clocks → GameKeepsHeadline R image held clocks)
       → (machine : Machine) (work : ℕ → ℕ) (calm : ℕ) (clocks : List Bus)
-      → IsWhole R image held rom machine work calm clocks → CellsKeep R image held rom start machine clocks
+      → IsCellsRun R image held rom machine work calm clocks → CellsKeep R image held rom start machine clocks
   of_cabinet memory keeps machine work calm clocks on =
       let one = find (now on) in
       let kept = keeps one.spot clocks one.on in

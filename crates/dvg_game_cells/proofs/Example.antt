@@ -9,7 +9,7 @@ use Rattle.dvg_game_6502.specs.SomeGame.{bytes, vectors, rom}
 use Rattle.dvg_game_board.specs.Example.{nothing}
 use Rattle.dvg_game_board.proofs.SomeCabinet.{is_image, is_rom, zero_at}
 use Rattle.dvg_game_6502.proofs.SomeGame.{rom_small}
-use Rattle.dvg_game_cells.specs.Whole.{IsWhole, calm_after, powers, work_after}
+use Rattle.dvg_game_cells.specs.Whole.{IsCellsRun, calm_after, powers, work_after}
 use Rattle.dvg_game_cells.specs.GoesOn.{SomeWhole, pins_for}
 use Rattle.dvg_game_cells.proofs.RunCanGoOn.{runs_go_on}
 
@@ -26,7 +26,7 @@ never true b e = cc
 never false b e = cc
 
 abbrev Is : Machine → (ℕ → ℕ) → ℕ → List Bus → Type 0
-Is machine work calm clocks = IsWhole zeros zeros nothing (rom nothing) machine work calm clocks
+Is machine work calm clocks = IsCellsRun zeros zeros nothing (rom nothing) machine work calm clocks
 
 -- so they come
 goes : (n : ℕ) (machine : Machine) (work : ℕ → ℕ) (calm : ℕ) (clocks : List Bus) → Is machine work calm clocks

@@ -13,7 +13,7 @@ use Rattle.dvg_cells_cpu.proofs.LawOfWidths.{fits}
 use Rattle.dvg_calls_cells.specs.Machine.{Machine, drives_board, drives_cpu}
 use Rattle.dvg_calls_cells.proofs.Fits.{BoardFits, board_fits, q_in}
 use Rattle.dvg_calls_board.proofs.Waiting.{below}
-use Rattle.dvg_game_cells.specs.Whole.{Finds, IsWhole, powers, takes, ticks}
+use Rattle.dvg_game_cells.specs.Whole.{Finds, IsCellsRun, powers, takes, ticks}
 use Rattle.dvg_game_cells.specs.GoesOn.{RunsGoOn, answer, pins_for}
 use Rattle.dvg_game_cells.proofs.CpuOfAnyCells.{answer_finds, answer_small, choose}
 
@@ -26,7 +26,7 @@ record AllFit (R : List ℕ) (rom : ℕ → ℕ) (machine : Machine) (work : ℕ
   rom_in : (a : ℕ) → rom a < 256
 
 all_fit : {R image : List ℕ} {held rom : ℕ → ℕ} {machine : Machine} {work : ℕ → ℕ} {calm : ℕ} {clocks : List Bus}
-    → IsWhole R image held rom machine work calm clocks → AllFit R rom machine work
+    → IsCellsRun R image held rom machine work calm clocks → AllFit R rom machine work
 all_fit (powers work calm is_rom is_image first held_in work_in rom_in) = record {
   is_rom = is_rom;
   cells = fits.0;

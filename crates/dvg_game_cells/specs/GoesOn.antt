@@ -10,7 +10,7 @@ use Rattle.dvg_cells_cpu.specs.Cpu.{at}
 use Rattle.dvg_calls_cells.specs.Machine.{Machine, Bus as Pins, clock, drives_board}
 use Rattle.dvg_game_6502.specs.SomeGame as game
 use Rattle.dvg_game_board.specs.Example.{nothing}
-use Rattle.dvg_game_cells.specs.Whole.{IsWhole, calm_after, rises, work_after}
+use Rattle.dvg_game_cells.specs.Whole.{IsCellsRun, calm_after, rises, work_after}
 
 -- what memory answers: the work RAM, the ROM, its vectors, and all else with any byte
 abbrev pub answer : (rom work : ℕ → ℕ) → (free a : ℕ) → ℕ
@@ -34,16 +34,16 @@ pins_for R rom machine work reset ready nmi hold free = record {
 -- and the free byte are in it, unless an NMI rises too soon
 abbrev pub RunsGoOn : Type 0
 RunsGoOn = (R image : List ℕ) (held rom : ℕ → ℕ) (machine : Machine) (work : ℕ → ℕ) (calm : ℕ) (clocks : List Bus)
-    → IsWhole R image held rom machine work calm clocks → (reset ready nmi hold free : ℕ) → reset < 2 → ready < 2
+    → IsCellsRun R image held rom machine work calm clocks → (reset ready nmi hold free : ℕ) → reset < 2 → ready < 2
     → nmi < 2 → free < 256
     → let pins = pins_for R rom machine work reset ready nmi hold free in
     (rises machine pins ≡ true → 5200 ≤ suc calm)
-    → IsWhole R image held rom (clock machine pins) (work_after machine pins work) (calm_after machine pins calm)
+    → IsCellsRun R image held rom (clock machine pins) (work_after machine pins work) (calm_after machine pins calm)
     (drives_board machine pins ∷ clocks)
 
 -- over RAMs and a vector ROM of zeros dvg_game_6502's example of a game, which the checker accepts, runs on the cells from power-up
 -- on: the driver begins its boot, and in the 113th clock it reads byte 001
 abbrev pub SomeWhole : Type 0
 SomeWhole = (machine : Machine) × (work : ℕ → ℕ) × (calm : ℕ) × (bus : Bus) × (clocks : List Bus)
-    × IsWhole zeros zeros nothing (game.rom nothing) machine work calm (bus ∷ clocks) × (length clocks ≡ 112)
+    × IsCellsRun zeros zeros nothing (game.rom nothing) machine work calm (bus ∷ clocks) × (length clocks ≡ 112)
     × (bus.access ≡ 1) × (bus.write ≡ 0) × (bus.a ≡ 0x4001)

@@ -15,7 +15,7 @@ use Rattle.dvg_game_6502.specs.Games.{Content, never_calls}
 use Rattle.dvg_game_6502.specs.Play.{IsByteWide, done, interrupted}
 use Rattle.dvg_game_board.specs.Cabinet.{DrawAlike, IsCabinet}
 use Rattle.dvg_game_board.specs.Keeps.{GameKeepsHeadline}
-use Rattle.dvg_game_cells.specs.Whole.{IsWhole}
+use Rattle.dvg_game_cells.specs.Whole.{IsCellsRun}
 
 -- a 6502 by its definition with this ROM, between a reset and the program's start: where the reset's vector leads, with any
 -- registers and any memory but in the ROM; an instruction on, but not from the start; at an NMI; and where switches, coins and
@@ -56,7 +56,7 @@ abbrev pub GamesOnCellsKeep : Type 0
 GamesOnCellsKeep = (R image : List ℕ) (held rom : ℕ → ℕ) (start : ℕ) (notes : Notes)
     → accepts rom start notes ≡ true → Content R rom start
     → (machine : Machine) (work : ℕ → ℕ) (calm : ℕ) (clocks : List Bus)
-    → IsWhole R image held rom machine work calm clocks → CellsKeep R image held rom start machine clocks
+    → IsCellsRun R image held rom machine work calm clocks → CellsKeep R image held rom start machine clocks
 
 -- and each run of a game that builds its frames by dvg_open, dvg_labs, dvg_vector and dvg_close alone: its bytes say so, and
 -- of what it draws there is no premise
@@ -65,4 +65,4 @@ VectorsOnCellsKeep = (R image : List ℕ) (held rom : ℕ → ℕ) (start : ℕ)
     → accepts rom start notes ≡ true → never_calls rom dvg_offer ≡ true → never_calls rom dvg_put ≡ true
     → never_calls rom dvg_pair ≡ true
     → (machine : Machine) (work : ℕ → ℕ) (calm : ℕ) (clocks : List Bus)
-    → IsWhole R image held rom machine work calm clocks → CellsKeep R image held rom start machine clocks
+    → IsCellsRun R image held rom machine work calm clocks → CellsKeep R image held rom start machine clocks

@@ -53,13 +53,13 @@ pub record IsDriven (R : List ℕ) (rom : ℕ → ℕ) (machine : Machine) (work
 
 -- all that may come since power-up: the machine, the work RAM, how many cycles came since `nmi` rose, and the board's clocks,
 -- the newest first
-pub data IsWhole (R image : List ℕ) (held rom : ℕ → ℕ) : Machine → (ℕ → ℕ) → ℕ → List Bus → Type 0 where
+pub data IsCellsRun (R image : List ℕ) (held rom : ℕ → ℕ) : Machine → (ℕ → ℕ) → ℕ → List Bus → Type 0 where
   -- power-up, with any bytes in both RAMs, and bytes in the ROM
   powers : (work : ℕ → ℕ) (calm : ℕ) → IsRom R → IsImage image → ((a : ℕ) → a < 2048 → held a ≡ slice_index image a)
       → ((a : ℕ) → held a < 256) → ((a : ℕ) → work a < 256) → ((a : ℕ) → rom a < 256)
-      → IsWhole R image held rom (powered held) work calm []
+      → IsCellsRun R image held rom (powered held) work calm []
   -- a clock more, maybe with a reset
   ticks : {machine : Machine} {work : ℕ → ℕ} {calm : ℕ} {clocks : List Bus} (pins : Pins)
-      → IsWhole R image held rom machine work calm clocks → IsDriven R rom machine work calm pins
-      → IsWhole R image held rom (clock machine pins) (work_after machine pins work)
+      → IsCellsRun R image held rom machine work calm clocks → IsDriven R rom machine work calm pins
+      → IsCellsRun R image held rom (clock machine pins) (work_after machine pins work)
       (calm_after machine pins calm) (drives_board machine pins ∷ clocks)

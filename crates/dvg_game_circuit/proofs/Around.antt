@@ -13,7 +13,7 @@ use Rattle.dvg_cells_cpu.specs.Cpu.{Cpu as Cells, at, dout, write}
 use Rattle.dvg_cells_cpu.proofs.Bounds.{bit_in}
 use Rattle.dvg_cells_cpu.proofs.LawOfWidths.{fits}
 use Rattle.dvg_game_circuit.specs.Game.{Game, Bus, clock, drives_cpu, drives_vectors}
-use Rattle.dvg_game_circuit.specs.Circuit.{Held, IsBus, IsLoaded, after, board_clocks}
+use Rattle.dvg_game_circuit.specs.Circuit.{Held, IsBus, HoldsGame, after, board_clocks}
 use Rattle.dvg_game_circuit.specs.Around.{AreLatched, BoardGoesAround, GoesAround, banked, begins, byte_of, code_at}
 use Rattle.dvg_game_circuit.specs.Around.{counted, found, in_area, input_at, is_closed, last, on_board, writes}
 use Rattle.dvg_game_circuit.proofs.Projection.{byte_of_input, setting_at}
@@ -186,7 +186,7 @@ module _ (held : Held) (clocks : List Bus) (bus : Bus) (is : IsBus bus) (fine : 
           (code ∙ ap held.code (code_is a fine.place)))
 
 module _ (R image : List ℕ) (rom : ℕ → ℕ) (held : Held) (is_rom : IsRom R) (count : length R ≡ 2048) (rom_in : (a : ℕ) → rom a < 256)
-    (loaded : IsLoaded R image rom held) where
+    (loaded : HoldsGame R image rom held) where
   -- what holds between two clocks, beside what holds of a machine
   record Goes (clocks : List Bus) : Type 0 where
     latched : AreLatched held clocks

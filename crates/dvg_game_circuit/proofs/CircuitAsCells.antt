@@ -17,9 +17,9 @@ use Rattle.dvg_cells_cpu.proofs.LawOfWidths.{fits}
 use Rattle.dvg_cells_cpu.proofs.EachOpcode.{waits}
 use Rattle.dvg_calls_cells.specs.Machine as machines
 use Rattle.dvg_calls_cells.proofs.Fits.{BoardFits, board_fits, q_in}
-use Rattle.dvg_game_cells.specs.Whole.{IsDriven, IsWhole, powers, ticks, calm_after, work_after}
+use Rattle.dvg_game_cells.specs.Whole.{IsDriven, IsCellsRun, powers, ticks, calm_after, work_after}
 use Rattle.dvg_game_circuit.specs.Game.{Game, Bus, clock, drives_cpu, drives_vectors}
-use Rattle.dvg_game_circuit.specs.Circuit.{Held, IsBus, IsLoaded, after, machine_of, board_clocks, vector_clocks}
+use Rattle.dvg_game_circuit.specs.Circuit.{Held, IsBus, HoldsGame, after, machine_of, board_clocks, vector_clocks}
 use Rattle.dvg_game_circuit.specs.Laws.{CircuitsAreWhole}
 use Rattle.dvg_game_circuit.proofs.Projection.{found_at, pins_of}
 use Rattle.dvg_game_circuit.proofs.NmisApart.{Timed, timed_on}
@@ -55,10 +55,10 @@ twelfth periods e = eqb-true periods 12 (by (nat_eq periods 12) e)
     by false e = absurd (omega arith)
 
 module _ (R image : List ℕ) (rom : ℕ → ℕ) (held : Held) (is_rom : IsRom R) (count : length R ≡ 2048) (rom_in : (a : ℕ) → rom a < 256)
-    (loaded : IsLoaded R image rom held) where
+    (loaded : HoldsGame R image rom held) where
   -- what holds between two clocks
   pub record Stands (game : Game) (work : ℕ → ℕ) (calm : ℕ) (clocks : List board.Bus) : Type 0 where
-    pub whole : IsWhole R image held.ram rom (machine_of game) work calm clocks
+    pub whole : IsCellsRun R image held.ram rom (machine_of game) work calm clocks
     pub code : game.code ≡ held.code
     pub shapes : game.shapes ≡ held.shapes
     pub answers_in : game.answers < 2
@@ -245,7 +245,7 @@ module _ (R image : List ℕ) (rom : ℕ → ℕ) (held : Held) (is_rom : IsRom 
       )
 
   pub circuits_are_whole : (clocks : List Bus) → All IsBus clocks
-      → (work : ℕ → ℕ) × (calm : ℕ) × IsWhole R image held.ram rom (machine_of (after held clocks)) work calm (board_clocks held clocks)
+      → (work : ℕ → ℕ) × (calm : ℕ) × IsCellsRun R image held.ram rom (machine_of (after held clocks)) work calm (board_clocks held clocks)
   circuits_are_whole clocks all = let at_last = stands clocks all in (at_last.0, at_last.1, at_last.2.whole)
 
   -- the pins of its vectors are bits and bytes, in each clock

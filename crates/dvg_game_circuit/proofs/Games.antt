@@ -12,12 +12,12 @@ use Rattle.dvg_game_rules.specs.Asteroid as asteroid_game
 use Rattle.dvg_game_rules.specs.Rocks as rocks_game
 use Rattle.dvg_closed_board.specs.AsteroidContent as asteroid_content
 use Rattle.dvg_closed_board.specs.RocksContent as rocks_content
-use Rattle.dvg_game_cells.specs.Whole.{IsWhole, powers, ticks}
+use Rattle.dvg_game_cells.specs.Whole.{IsCellsRun, powers, ticks}
 use Rattle.dvg_game_cells.specs.Keeps.{CellsKeep}
 use Rattle.dvg_closed_cells.specs.Closed.{CanBePowered, GamesOnCellsKeepByBytes, KeepsOnCells, PoweredOn}
 use Rattle.dvg_closed_cells.specs.Closed as closed
 use Rattle.dvg_game_circuit.specs.Game.{Bus}
-use Rattle.dvg_game_circuit.specs.Circuit.{CircuitKeeps, Held, IsBus, IsLoaded, after, board_clocks, machine_of, read}
+use Rattle.dvg_game_circuit.specs.Circuit.{CircuitKeeps, Held, IsBus, HoldsGame, after, board_clocks, machine_of, read}
 use Rattle.dvg_game_circuit.specs.Laws.{Asteroid, CanBeLoaded, CircuitsKeepByBytes, GamesLoad, KeepsOnCircuit, Rocks, with_shapes}
 use Rattle.dvg_game_circuit.proofs.OwnMemoryReads.{read_high, read_low}
 use Rattle.dvg_game_circuit.proofs.CircuitAsCells.{vectors_after, vectors_driven, whole}
@@ -29,14 +29,14 @@ below (byte ∷ bytes) all (suc i) = below bytes all.1 i
 
 -- what each run of cells has from power-up
 known : {R image : List ℕ} {held rom : ℕ → ℕ} {machine : Machine} {work : ℕ → ℕ} {calm : ℕ} {clocks : List board.Bus}
-    → IsWhole R image held rom machine work calm clocks → IsRom R × ((a : ℕ) → rom a < 256)
+    → IsCellsRun R image held rom machine work calm clocks → IsRom R × ((a : ℕ) → rom a < 256)
 known (powers work calm is_rom is_image same held_in work_in rom_in) = (is_rom, rom_in)
 known (ticks pins on asks) = known on
 
 pub keeps : (R image : List ℕ) (rom : ℕ → ℕ) (start : ℕ) (held : Held) → IsRom R → length R ≡ 2048 → ((a : ℕ) → rom a < 256)
-    → IsLoaded R image rom held
+    → HoldsGame R image rom held
     → ((machine : Machine) (work : ℕ → ℕ) (calm : ℕ) (clocks : List board.Bus)
-    → IsWhole R image held.ram rom machine work calm clocks → CellsKeep R image held.ram rom start machine clocks)
+    → IsCellsRun R image held.ram rom machine work calm clocks → CellsKeep R image held.ram rom start machine clocks)
     → (clocks : List Bus) → All IsBus clocks → CircuitKeeps R image rom start held clocks
 keeps R image rom start held is_rom count rom_in there law clocks all =
     let on = whole R image rom held is_rom count rom_in there clocks all in record {

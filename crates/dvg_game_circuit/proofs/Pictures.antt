@@ -17,7 +17,7 @@ use Rattle.dvg_cells_motion.specs.Machine as drawn
 use Rattle.dvg_cells_motion.specs.Times.{AtOnce, GoOn, TakesPicture, last_tick, late, run_ticks, tick_before, uses_ram}
 use Rattle.dvg_game_circuit.specs.Game.{Bus, drives_vectors, halted}
 use Rattle.dvg_game_circuit.specs.Game as pin
-use Rattle.dvg_game_circuit.specs.Circuit.{Held, IsBus, IsLoaded, after, vector_clocks}
+use Rattle.dvg_game_circuit.specs.Circuit.{Held, IsBus, HoldsGame, after, vector_clocks}
 use Rattle.dvg_game_circuit.specs.Around.{IsTimed, begins, takes, took}
 use Rattle.dvg_game_circuit.specs.Pictures.{AreCyclesInTicks, CircuitDraws, CircuitTakesPicture, later_clocks}
 use Rattle.dvg_game_circuit.proofs.Around.{around}
@@ -68,7 +68,7 @@ none_of true n e none = absurd (cc)
 none_of false n e none = e
 
 module _ (R image : List ℕ) (rom : ℕ → ℕ) (held : Held) (is_rom : IsRom R) (count : length R ≡ 2048) (rom_in : (a : ℕ) → rom a < 256)
-    (loaded : IsLoaded R image rom held) where
+    (loaded : HoldsGame R image rom held) where
   timed : (clocks : List Bus) → All IsBus clocks → (bus : Bus) → IsBus bus → IsTimed held clocks bus
   timed clocks all bus is = (around R image rom held is_rom count rom_in loaded clocks all bus is).timed
 

@@ -6,7 +6,7 @@ use Rattle.dvg_cells_core.specs.Cells.{bit}
 use Rattle.dvg_cells_motion.specs.Vectors as vectors
 use Rattle.dvg_game_circuit.specs.Game.{Game, Bus, clock, drives_cpu, drives_vectors}
 use Rattle.dvg_game_circuit.specs.Game as pin
-use Rattle.dvg_game_circuit.specs.Circuit.{Held, IsBus, IsLoaded, after, high}
+use Rattle.dvg_game_circuit.specs.Circuit.{Held, IsBus, HoldsGame, after, high}
 
 -- a reset is taken, from outside or the watchdog's: where no cycle is open
 abbrev pub is_reset : Game → Bus → Bool
@@ -157,4 +157,4 @@ pub record GoesAround (held : Held) (clocks : List Bus) (bus : Bus) : Type 0 whe
 
 abbrev pub BoardGoesAround : Type 0
 BoardGoesAround = (R image : List ℕ) (rom : ℕ → ℕ) (held : Held) → IsRom R → length R ≡ 2048 → ((a : ℕ) → rom a < 256)
-    → IsLoaded R image rom held → (clocks : List Bus) → All IsBus clocks → (bus : Bus) → IsBus bus → GoesAround held clocks bus
+    → HoldsGame R image rom held → (clocks : List Bus) → All IsBus clocks → (bus : Bus) → IsBus bus → GoesAround held clocks bus

@@ -37,7 +37,7 @@ abbrev pub read : (code : ℕ → ℕ) → ℕ → ℕ
 read code a = code (if nat_lt a 0x6800 then a % 0x800 else a - 0x6000)
 
 -- bytes in all memories, of which both ROMs hold this game; `image` is the vector RAM
-pub record IsLoaded (R image : List ℕ) (rom : ℕ → ℕ) (held : Held) : Type 0 where
+pub record HoldsGame (R image : List ℕ) (rom : ℕ → ℕ) (held : Held) : Type 0 where
   pub program : (a : ℕ) → 0x4800 ≤ a → a < 0x8000 → read held.code a ≡ rom a
   pub shapes : (a : ℕ) → a < 0x800 → held.shapes a ≡ slice_index R a
   pub whole : IsImage image

@@ -12,13 +12,13 @@ use Rattle.dvg_cells_motion.specs.Machine.{CountersFollow, cores, ticks}
 use Rattle.dvg_cells_motion.specs.Pulses.{counters_of}
 use Rattle.dvg_cells_motion.specs.Times.{GoOn, late, run_ticks}
 use Rattle.dvg_game_circuit.specs.Game.{Game, Bus, halted, lit, z, drives_vectors}
-use Rattle.dvg_game_circuit.specs.Circuit.{Held, IsBus, IsLoaded, after, vector_clocks}
+use Rattle.dvg_game_circuit.specs.Circuit.{Held, IsBus, HoldsGame, after, vector_clocks}
 use Rattle.dvg_game_circuit.specs.Around.{takes}
 
 -- what is said of each run of the circuit with bytes in its memories, and the generator's ROM among them
 abbrev pub OfEachCircuit : (Held → Type 0) → Type 0
 OfEachCircuit P = (R image : List ℕ) (rom : ℕ → ℕ) (held : Held) → IsRom R → length R ≡ 2048 → ((a : ℕ) → rom a < 256)
-    → IsLoaded R image rom held → P held
+    → HoldsGame R image rom held → P held
 
 -- the beam's counters follow the run that its core has
 abbrev pub IsFollowed : Held → List Bus → Type 0

@@ -2,7 +2,7 @@
 use Rattle.std.specs.Prelude.{◌≡◌, ℕ, ◌<◌, All, List, length}
 use Rattle.dvg_mem.specs.Memory.{IsRom}
 use Rattle.dvg_game_circuit.specs.Game.{Bus}
-use Rattle.dvg_game_circuit.specs.Circuit.{CircuitKeeps, Held, IsBus, IsLoaded}
+use Rattle.dvg_game_circuit.specs.Circuit.{CircuitKeeps, Held, IsBus, HoldsGame}
 use Rattle.dvg_game_check.specs.declared.judging.Judged.{Judged}
 use Rattle.dvg_game_check.specs.declared.judging.Verdict.TheVariants.{Keeps}
 use Rattle.dvg_game_check.specs.Rules.{HasBytes}
@@ -13,5 +13,5 @@ use Rattle.dvg_game_check.specs.Verdicts.{Means}
 abbrev pub JudgedOnCircuitKeeps : Type 0
 JudgedOnCircuitKeeps = (bytes R : List ℕ) (start : ℕ) (judged : Judged) → judged.verdict ≡ Keeps start → Means bytes R judged
     → (image : List ℕ) (rom : ℕ → ℕ) → HasBytes bytes rom → IsRom R → length R ≡ 2048 → ((a : ℕ) → rom a < 256)
-    → (held : Held) → IsLoaded R image rom held → (clocks : List Bus) → All IsBus clocks
+    → (held : Held) → HoldsGame R image rom held → (clocks : List Bus) → All IsBus clocks
     → CircuitKeeps R image rom start held clocks
