@@ -31,13 +31,16 @@ fn line_at<A: Allocator>(
     ensures at { IfOk result (λ line. line.at ≡ at) }
     ensures form { IfOk result IsLineOf }
 {
+    let head = [
+        glyph((at / 4096 % 16) as usize),
+        glyph((at / 256 % 16) as usize),
+        glyph((at / 16 % 16) as usize),
+        glyph((at % 16) as usize),
+        b':',
+        b' ',
+    ];
     let mut bytes = Vec::new(alloc);
-    bytes.push(glyph((at / 4096 % 16) as usize))?;
-    bytes.push(glyph((at / 256 % 16) as usize))?;
-    bytes.push(glyph((at / 16 % 16) as usize))?;
-    bytes.push(glyph((at % 16) as usize))?;
-    bytes.push(b':')?;
-    bytes.push(b' ')?;
+    bytes.extend_from_slice(&head)?;
     bytes.extend_from_slice(text)?;
     bytes.push(b'\n')?;
     Ok(PlaceLine { at, bytes })
