@@ -1,2 +1,4 @@
+pub mod JudgedTold
 pub mod Lines
 pub mod Ordered
+pub mod PlacesTold

@@ -1,5 +1,5 @@
 -- Places in two lists.
-use Rattle.std.proofs.Common.{◌≡◌, ℕ, ◌+◌, ◌<◌, ◌||◌, Bool, true, false, List, [], ◌∷◌, ◌++◌, length, take, get_or, refl, sym, ap, ◌∙◌}
+use Rattle.std.proofs.Common.{◌≡◌, ℕ, ◌+◌, ◌<◌, ◌≤◌, ◌||◌, Bool, true, false, List, [], ◌∷◌, ◌++◌, length, take, take_all, get_or, refl, sym, ap, ◌∙◌}
 use Rattle.std.specs.Prelude.{nat_eq}
 use Rattle.std.proofs.lemmas.List.{take_more}
 use Rattle.dvg_game_check.specs.declared.reason.Broken.{Broken}
@@ -44,6 +44,25 @@ second_more causes others all x at h =
     ∙ sym (or_assoc (listed causes at) (listed others at) (nat_eq x.at at))
     ∙ ap (λ b. b || nat_eq x.at at) h ∙ sym (listed_push all x at)
 
--- those up to the next one
-pub up_to : (all : List Broken) (i : ℕ) (x : Broken) → i < length all → x ≡ get_or all i x → take (i + 1) all ≡ take i all ++ x ∷ []
-up_to all i x low is = take_more all i x low ∙ ap (λ y. take i all ++ y ∷ []) (sym is)
+-- one more of all is pushed to the first list, or to the second
+pub first_pushed : (all : List Broken) (i : ℕ) (d : Broken) (causes others more same : List Broken) (at : ℕ) → i < length all
+    → more ≡ causes ++ get_or all i d ∷ [] → same ≡ others
+    → (listed causes at || listed others at) ≡ listed (take i all) at
+    → (listed more at || listed same at) ≡ listed (take (i + 1) all) at
+first_pushed all i d causes others more same at low e f h =
+    ap (λ l. listed l at || listed same at) e ∙ ap (λ l. listed (causes ++ get_or all i d ∷ []) at || listed l at) f
+    ∙ first_more causes others (take i all) (get_or all i d) at h ∙ sym (ap (λ l. listed l at) (take_more all i d low))
+
+pub second_pushed : (all : List Broken) (i : ℕ) (d : Broken) (causes others same more : List Broken) (at : ℕ) → i < length all
+    → same ≡ causes → more ≡ others ++ get_or all i d ∷ []
+    → (listed causes at || listed others at) ≡ listed (take i all) at
+    → (listed same at || listed more at) ≡ listed (take (i + 1) all) at
+second_pushed all i d causes others same more at low e f h =
+    ap (λ l. listed l at || listed more at) e ∙ ap (λ l. listed causes at || listed l at) f
+    ∙ second_more causes others (take i all) (get_or all i d) at h ∙ sym (ap (λ l. listed l at) (take_more all i d low))
+
+-- both lists, one behind the other, are all
+pub whole : (all causes others both : List Broken) (i at : ℕ) → both ≡ causes ++ others → length all ≤ i
+    → (listed causes at || listed others at) ≡ listed (take i all) at → listed both at ≡ listed all at
+whole all causes others both i at e over h =
+    ap (λ l. listed l at) e ∙ listed_append causes others at ∙ h ∙ ap (λ l. listed l at) (take_all i all over)

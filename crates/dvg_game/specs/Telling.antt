@@ -1,5 +1,5 @@
 -- What is told of a game.
-use Rattle.std.specs.Prelude.{◌≡◌, ◌+◌, ◌<◌, ◌≤◌, ◌++◌, ◌||◌, ℕ, Bool, true, false, nat_eq, All, List, [], ◌∷◌, Option}
+use Rattle.std.specs.Prelude.{◌≡◌, ◌+◌, ◌<◌, ◌≤◌, ◌++◌, ◌||◌, ℕ, Bool, true, false, nat_eq, All, List, [], ◌∷◌, Option, Some}
 use Rattle.std.specs.Prelude.{codes, drop, flat_map, length, map, take}
 use Rattle.dvg_io.specs.Serving.{Answers, Meaning}
 use Rattle.dvg_print.specs.Lines.{hex_4}
@@ -52,7 +52,12 @@ pub record TellBroken (bytes : List ℕ) (notes : List (Option Note)) (told : Li
   pub others : (at : ℕ) → first ≤ at → at < first + places → is_told told at ≡ false
       → (rom : ℕ → ℕ) → HasBytes bytes rom → fine_at (notes_in notes) rom at (noted (notes_in notes) at) ≡ true
 
--- where what isn't seen is of an instruction, that one is told
+-- where what isn't seen is of an instruction, that one is found (for a private contract)
+abbrev pub IsPlaceOf : GameUnseen → Option ℕ → Type 0
+IsPlaceOf (unseen_at at gap) place = place ≡ Some at
+IsPlaceOf why place = Unit {0}
+
+-- and that one is told
 abbrev pub IsToldAs : GameUnseen → List ℕ → Type 0
 IsToldAs (unseen_at at gap) told = told ≡ at ∷ []
 IsToldAs why told = Unit {0}

@@ -88,7 +88,11 @@ fn tell_reached<A: Allocator>(
     level: Level,
     a: u16,
 ) -> fmt::Result {
-    let in_nmi = if matches!(level, Level::Nmi) { ", in the NMI" } else { "" };
+    let in_nmi = if matches!(level, Level::Nmi) {
+        ", in the NMI"
+    } else {
+        ""
+    };
     let indexed = matches!(
         i.mode,
         Mode::ZeroPageX | Mode::ZeroPageY | Mode::AbsoluteX | Mode::AbsoluteY
@@ -126,7 +130,10 @@ pub(crate) fn tell_store<A: Allocator>(
 /// Tells that what an instruction calls or jumps to of the driver is no routine of it.
 pub(crate) fn tell_entry<A: Allocator>(out: &mut Text<A>, i: &Instruction) -> fmt::Result {
     let to = i.operand();
-    write!(out, "it goes to {to:04X}, which is no routine that is proved")
+    write!(
+        out,
+        "it goes to {to:04X}, which is no routine that is proved"
+    )
 }
 
 /// Tells that the NMI calls a routine of the driver.

@@ -77,7 +77,11 @@ fn tell_cure<A: Allocator>(
 ) -> fmt::Result {
     let is_nmi = matches!(new, Level::Nmi);
     if way.is_behind && (!is_nmi || way.to == u32::from(program.word(NMI_VECTOR))) {
-        let missing = if matches!(way.level, Level::Nmi) { "RTI" } else { "RTS or JMP" };
+        let missing = if matches!(way.level, Level::Nmi) {
+            "RTI"
+        } else {
+            "RTS or JMP"
+        };
         return write!(out, "is an {missing} missing before it?");
     }
     if is_nmi || matches!(way.level, Level::Nmi) {
@@ -90,18 +94,17 @@ fn tell_cure<A: Allocator>(
 }
 
 // Tells of a way to a place of another level.
-fn tell_level<A: Allocator>(
-    out: &mut Text<A>,
-    program: &Program<'_>,
-    way: &Way,
-) -> fmt::Result {
+fn tell_level<A: Allocator>(out: &mut Text<A>, program: &Program<'_>, way: &Way) -> fmt::Result {
     let (to, now) = (way.to, level_name(way.level));
     let Some(new) = program.note(to) else {
         return Ok(());
     };
     let next = level_name(new.level);
     if way.is_behind {
-        write!(out, "it runs on into {to:04X}, which is {next}, not {now}: ")?;
+        write!(
+            out,
+            "it runs on into {to:04X}, which is {next}, not {now}: "
+        )?;
     } else {
         write!(out, "it goes on at {to:04X}, which is {next}, not {now}: ")?;
     }
@@ -109,11 +112,7 @@ fn tell_level<A: Allocator>(
 }
 
 // Tells of a way to a place with another depth.
-fn tell_depth<A: Allocator>(
-    out: &mut Text<A>,
-    program: &Program<'_>,
-    way: &Way,
-) -> fmt::Result {
+fn tell_depth<A: Allocator>(out: &mut Text<A>, program: &Program<'_>, way: &Way) -> fmt::Result {
     let to = way.to;
     let depth = match program.note(to) {
         Some(new) => new.depth,

@@ -4,6 +4,7 @@ use dvg_game_check::{BYTES, FAR, FIRST, PLACES, known_at, value};
 
 /// The routines to which a table is offered, and a word put.
 pub(crate) const OFFER: u16 = 0x68FE;
+
 pub(crate) const PUT: u16 = 0x6957;
 
 // Whether A and X are known to be this word at a place, for some Y.
@@ -23,12 +24,7 @@ fn brings(rom: &[u8], ways: &[u8], at: u32, word: u16) -> bool {
 }
 
 /// Returns the first instruction that calls or jumps to a routine, and brings this word to it.
-pub(crate) fn bringer(
-    program: &Program<'_>,
-    ways: &[u8],
-    entry: u16,
-    word: u16,
-) -> Option<u32> {
+pub(crate) fn bringer(program: &Program<'_>, ways: &[u8], entry: u16, word: u16) -> Option<u32> {
     for k in 0..PLACES {
         let at = FIRST + k;
         if let Some(step) = program.step(at) {

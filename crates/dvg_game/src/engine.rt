@@ -5,11 +5,12 @@ ghost use Rattle.dvg_io.specs.Serving.{AreFresh, Serves};
 ghost use Rattle.dvg_io.specs.Watching.{Writes};
 ghost use Rattle.dvg_game.specs.Telling.{HasGameFault, IsTold, IsToldOf, JudgesGame, opening_of};
 ghost use Rattle.dvg_game.specs.Telling.{program_of, told_text, vectors_of};
+ghost use Rattle.dvg_game.specs.declared.engine.TheConstants.{GAME_BYTES};
 
 use crate::telling::tell;
 use crate::told::{PlaceLine, Told};
 use dvg_code::OutOfMemory;
-use dvg_game_check::judge;
+use dvg_game_check::{BYTES, judge};
 use dvg_io::{Engine, StreamFailed, ToolFault, Watched, serve, write_lines, write_whole};
 use dvg_mem::{MEMORY_BYTES, Rom};
 use dvg_read::{TextFault, Unread};
@@ -31,6 +32,23 @@ fn size_fault(input: &[u8]) -> TextFault
     }
 }
 
+// Returns what is found of the program `rom`, beside the vector ROM of these bytes.
+fn find_game<A: Allocator + Copy>(
+    alloc: A,
+    rom: &[u8],
+    vectors: &[u8],
+    with_notes: bool,
+) -> Result<Told<A>, OutOfMemory>
+    requires { length rom.now ≡ BYTES }
+    ensures { IfOk result (IsToldOf rom.now vectors.now) }
+{
+    let Ok(vectors) = Rom::new(alloc, vectors) else {
+        return Err(OutOfMemory);
+    };
+    let judged = judge(alloc, rom, &vectors)?;
+    tell(alloc, rom, &judged, with_notes)
+}
+
 // Returns what is found of an input that has as many bytes as it has to.
 fn find_in<A: Allocator + Copy>(
     alloc: A,
@@ -40,12 +58,8 @@ fn find_in<A: Allocator + Copy>(
     requires { length input.now ≡ GAME_BYTES }
     ensures { IfOk result (IsToldOf (program_of input.now) (vectors_of input.now)) }
 {
-    let Ok(vectors) = Rom::new(alloc, &input[..MEMORY_BYTES]) else {
-        return Err(OutOfMemory);
-    };
-    let rom = &input[MEMORY_BYTES..];
-    let judged = judge(alloc, rom, &vectors)?;
-    tell(alloc, rom, &judged, with_notes)
+    let (vectors, rom) = input.split_at(MEMORY_BYTES);
+    find_game(alloc, rom, vectors, with_notes)
 }
 
 // The engine. With `notes` each note is told, too.
@@ -130,11 +144,7 @@ impl<A: Allocator + Copy> Engine<A> for GameEngine {
         }
     }
 
-    fn write<W: Write>(
-        &self,
-        told: &Told<A>,
-        writer: &mut Watched<W>,
-    ) -> Result<(), StreamFailed> {
+    fn write<W: Write>(&self, told: &Told<A>, writer: &mut Watched<W>) -> Result<(), StreamFailed> {
         write_told(told, writer)
     }
 }

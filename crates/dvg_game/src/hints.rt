@@ -11,6 +11,7 @@ use std::fmt::{self, Write};
 
 /// The addresses of `dvg_open` and `dvg_labs`.
 const OPEN: u16 = 0x6924;
+
 const LABS: u16 = 0x6979;
 
 /// What is known of the causes of a program's refusals.

@@ -14,20 +14,14 @@ use crate::told::{PlaceLine, Told};
 use crate::unseen::{place_of, tell_unseen};
 use crate::vectors::{tell_boot, tell_vectors};
 use dvg_code::OutOfMemory;
-use dvg_game_check::{
-    BYTES, Broken, Judged, Note, PLACES, Refusal, Unseen, Verdict, all_broken,
-};
+use dvg_game_check::{BYTES, Broken, Judged, Note, PLACES, Refusal, Unseen, Verdict, all_broken};
 use dvg_io::Text;
 use dvg_print::glyph;
 use std::alloc::Allocator;
 use std::fmt::{self, Write};
 
 // Returns a line that begins with an address.
-fn line_at<A: Allocator>(
-    alloc: A,
-    at: u32,
-    text: &[u8],
-) -> Result<PlaceLine<A>, OutOfMemory>
+fn line_at<A: Allocator>(alloc: A, at: u32, text: &[u8]) -> Result<PlaceLine<A>, OutOfMemory>
     ensures at { IfOk result (λ line. line.at ≡ at) }
     ensures form { IfOk result IsLineOf }
 {
@@ -119,6 +113,22 @@ fn unseen_lines<A: Allocator + Copy>(
     Ok(lines)
 }
 
+// Returns the line of the instruction of which not all is seen to be good, if one is found.
+fn lines_for<A: Allocator + Copy>(
+    alloc: A,
+    program: &Program<'_>,
+    ways: &[u8],
+    why: Unseen,
+) -> Result<Vec<PlaceLine<A>, A>, OutOfMemory>
+    ensures at { IfOk result (λ lines. IsToldAs why (addresses lines.items)) }
+    ensures form { IfOk result (λ lines. All IsLineOf lines.items) }
+{
+    match place_of(program, ways, why) {
+        Some(at) => unseen_lines(alloc, program, at, why),
+        None => Ok(Vec::new(alloc)),
+    }
+}
+
 // Returns what is told of a program of which not all is seen.
 fn tell_gaps<A: Allocator + Copy>(
     alloc: A,
@@ -129,10 +139,7 @@ fn tell_gaps<A: Allocator + Copy>(
     ensures at { IfOk result (λ parts. IsToldAs why (addresses parts.lines.items)) }
     ensures form { IfOk result (λ parts. All IsLineOf parts.lines.items) }
 {
-    let lines = match place_of(program, judged.ways.as_slice(), why) {
-        Some(at) => unseen_lines(alloc, program, at, why)?,
-        None => Vec::new(alloc),
-    };
+    let lines = lines_for(alloc, program, judged.ways.as_slice(), why)?;
     let mut out = Text::new(alloc);
     let counts = count(alloc, program)?;
     let (tables, words) = (judged.tables.len(), judged.words.len());

@@ -1,4 +1,6 @@
 //! What is told of what isn't seen.
+ghost use Rattle.dvg_game.specs.Telling.{IsPlaceOf};
+
 use crate::bringer::{OFFER, PUT, bringer};
 use crate::instruction::Instruction;
 use crate::program::Program;
@@ -9,7 +11,11 @@ use std::fmt::{self, Write};
 
 // Returns what an instruction does with what isn't seen.
 fn what_of(i: &Instruction) -> &'static str {
-    if i.operand() == OFFER { "offers" } else { "puts" }
+    if i.operand() == OFFER {
+        "offers"
+    } else {
+        "puts"
+    }
 }
 
 // Tells of an instruction why what it offers or puts isn't seen.
@@ -41,7 +47,9 @@ fn tell_gap<A: Allocator>(
 
 /// Returns the instruction of which not all that it offers or puts is seen to be good, if one is
 /// found.
-pub(crate) fn place_of(program: &Program<'_>, ways: &[u8], why: Unseen) -> Option<u32> {
+pub(crate) fn place_of(program: &Program<'_>, ways: &[u8], why: Unseen) -> Option<u32>
+    ensures { IsPlaceOf why result }
+{
     match why {
         Unseen::At(at, _) => Some(at),
         Unseen::Start => None,

@@ -9,7 +9,9 @@ use std::fmt::{self, Write};
 
 /// The most instructions of the NMI, the most bytes that it may push, and the program.
 const MOST_FUEL: u16 = 800;
+
 const MOST_ROOM_OF_NMI: u16 = 29;
+
 const MOST_ROOM: u16 = 223;
 
 /// Whether a place is one of the game's code.

@@ -988,7 +988,8 @@ Example:
 pub(crate) const GAME_USAGE: &str = "dvg game [--notes] < GAME";
 
 /// The input and output of `game`.
-pub(crate) const GAME: &str = "Standard input: a game for the board of Asteroids, 8,192 bytes: the 2,048 of its
+pub(crate) const GAME: &str =
+    "Standard input: a game for the board of Asteroids, 8,192 bytes: the 2,048 of its
 vector ROM, and then the 6,144 of its program, from 6800 to 7FFF.
 
 Standard output: one of three verdicts.

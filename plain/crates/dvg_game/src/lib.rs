@@ -95,7 +95,11 @@ fn tell_reached<A: Allocator>(
     level: Level,
     a: u16,
 ) -> fmt::Result {
-    let in_nmi = if matches!(level, Level::Nmi) { ", in the NMI" } else { "" };
+    let in_nmi = if matches!(level, Level::Nmi) {
+        ", in the NMI"
+    } else {
+        ""
+    };
     let indexed = matches!(
         i.mode,
         Mode::ZeroPageX | Mode::ZeroPageY | Mode::AbsoluteX | Mode::AbsoluteY
@@ -133,7 +137,10 @@ pub(crate) fn tell_store<A: Allocator>(
 /// Tells that what an instruction calls or jumps to of the driver is no routine of it.
 pub(crate) fn tell_entry<A: Allocator>(out: &mut Text<A>, i: &Instruction) -> fmt::Result {
     let to = i.operand();
-    write!(out, "it goes to {to:04X}, which is no routine that is proved")
+    write!(
+        out,
+        "it goes to {to:04X}, which is no routine that is proved"
+    )
 }
 
 /// Tells that the NMI calls a routine of the driver.
@@ -287,7 +294,11 @@ fn tell_cure<A: Allocator>(
 ) -> fmt::Result {
     let is_nmi = matches!(new, Level::Nmi);
     if way.is_behind && (!is_nmi || way.to == u32::from(program.word(NMI_VECTOR))) {
-        let missing = if matches!(way.level, Level::Nmi) { "RTI" } else { "RTS or JMP" };
+        let missing = if matches!(way.level, Level::Nmi) {
+            "RTI"
+        } else {
+            "RTS or JMP"
+        };
         return write!(out, "is an {missing} missing before it?");
     }
     if is_nmi || matches!(way.level, Level::Nmi) {
@@ -300,18 +311,17 @@ fn tell_cure<A: Allocator>(
 }
 
 // Tells of a way to a place of another level.
-fn tell_level<A: Allocator>(
-    out: &mut Text<A>,
-    program: &Program<'_>,
-    way: &Way,
-) -> fmt::Result {
+fn tell_level<A: Allocator>(out: &mut Text<A>, program: &Program<'_>, way: &Way) -> fmt::Result {
     let (to, now) = (way.to, level_name(way.level));
     let Some(new) = program.note(to) else {
         return Ok(());
     };
     let next = level_name(new.level);
     if way.is_behind {
-        write!(out, "it runs on into {to:04X}, which is {next}, not {now}: ")?;
+        write!(
+            out,
+            "it runs on into {to:04X}, which is {next}, not {now}: "
+        )?;
     } else {
         write!(out, "it goes on at {to:04X}, which is {next}, not {now}: ")?;
     }
@@ -319,11 +329,7 @@ fn tell_level<A: Allocator>(
 }
 
 // Tells of a way to a place with another depth.
-fn tell_depth<A: Allocator>(
-    out: &mut Text<A>,
-    program: &Program<'_>,
-    way: &Way,
-) -> fmt::Result {
+fn tell_depth<A: Allocator>(out: &mut Text<A>, program: &Program<'_>, way: &Way) -> fmt::Result {
     let to = way.to;
     let depth = match program.note(to) {
         Some(new) => new.depth,
@@ -408,6 +414,7 @@ use dvg_game_check::{BYTES, FAR, FIRST, PLACES, known_at, value};
 
 /// The routines to which a table is offered, and a word put.
 pub(crate) const OFFER: u16 = 0x68FE;
+
 pub(crate) const PUT: u16 = 0x6957;
 
 // Whether A and X are known to be this word at a place, for some Y.
@@ -427,12 +434,7 @@ fn brings(rom: &[u8], ways: &[u8], at: u32, word: u16) -> bool {
 }
 
 /// Returns the first instruction that calls or jumps to a routine, and brings this word to it.
-pub(crate) fn bringer(
-    program: &Program<'_>,
-    ways: &[u8],
-    entry: u16,
-    word: u16,
-) -> Option<u32> {
+pub(crate) fn bringer(program: &Program<'_>, ways: &[u8], entry: u16, word: u16) -> Option<u32> {
     for k in 0..PLACES {
         let at = FIRST + k;
         if let Some(step) = program.step(at) {
@@ -542,18 +544,28 @@ fn size_fault(input: &[u8]) -> TextFault {
     }
 }
 
+// Returns what is found of the program `rom`, beside the vector ROM of these bytes.
+fn find_game<A: Allocator + Copy>(
+    alloc: A,
+    rom: &[u8],
+    vectors: &[u8],
+    with_notes: bool,
+) -> Result<Told<A>, OutOfMemory> {
+    let Ok(vectors) = Rom::new(alloc, vectors) else {
+        return Err(OutOfMemory);
+    };
+    let judged = judge(alloc, rom, &vectors)?;
+    tell(alloc, rom, &judged, with_notes)
+}
+
 // Returns what is found of an input that has as many bytes as it has to.
 fn find_in<A: Allocator + Copy>(
     alloc: A,
     input: &[u8],
     with_notes: bool,
 ) -> Result<Told<A>, OutOfMemory> {
-    let Ok(vectors) = Rom::new(alloc, &input[..MEMORY_BYTES]) else {
-        return Err(OutOfMemory);
-    };
-    let rom = &input[MEMORY_BYTES..];
-    let judged = judge(alloc, rom, &vectors)?;
-    tell(alloc, rom, &judged, with_notes)
+    let (vectors, rom) = input.split_at(MEMORY_BYTES);
+    find_game(alloc, rom, vectors, with_notes)
 }
 
 // The engine. With `notes` each note is told, too.
@@ -617,11 +629,7 @@ impl<A: Allocator + Copy> Engine<A> for GameEngine {
         }
     }
 
-    fn write<W: Write>(
-        &self,
-        told: &Told<A>,
-        writer: &mut Watched<W>,
-    ) -> Result<(), StreamFailed> {
+    fn write<W: Write>(&self, told: &Told<A>, writer: &mut Watched<W>) -> Result<(), StreamFailed> {
         write_told(told, writer)
     }
 }
@@ -664,6 +672,7 @@ use std::fmt::{self, Write};
 
 /// The addresses of `dvg_open` and `dvg_labs`.
 const OPEN: u16 = 0x6924;
+
 const LABS: u16 = 0x6979;
 
 /// What is known of the causes of a program's refusals.
@@ -1560,18 +1569,17 @@ use std::alloc::Allocator;
 use std::fmt::{self, Write};
 
 // Returns a line that begins with an address.
-fn line_at<A: Allocator>(
-    alloc: A,
-    at: u32,
-    text: &[u8],
-) -> Result<PlaceLine<A>, OutOfMemory> {
+fn line_at<A: Allocator>(alloc: A, at: u32, text: &[u8]) -> Result<PlaceLine<A>, OutOfMemory> {
+    let head = [
+        glyph((at / 4096 % 16) as usize),
+        glyph((at / 256 % 16) as usize),
+        glyph((at / 16 % 16) as usize),
+        glyph((at % 16) as usize),
+        b':',
+        b' ',
+    ];
     let mut bytes = Vec::new(alloc);
-    bytes.push(glyph((at / 4096 % 16) as usize))?;
-    bytes.push(glyph((at / 256 % 16) as usize))?;
-    bytes.push(glyph((at / 16 % 16) as usize))?;
-    bytes.push(glyph((at % 16) as usize))?;
-    bytes.push(b':')?;
-    bytes.push(b' ')?;
+    bytes.extend_from_slice(&head)?;
     bytes.extend_from_slice(text)?;
     bytes.push(b'\n')?;
     Ok(PlaceLine { at, bytes })
@@ -1641,6 +1649,19 @@ fn unseen_lines<A: Allocator + Copy>(
     Ok(lines)
 }
 
+// Returns the line of the instruction of which not all is seen to be good, if one is found.
+fn lines_for<A: Allocator + Copy>(
+    alloc: A,
+    program: &Program<'_>,
+    ways: &[u8],
+    why: Unseen,
+) -> Result<Vec<PlaceLine<A>, A>, OutOfMemory> {
+    match place_of(program, ways, why) {
+        Some(at) => unseen_lines(alloc, program, at, why),
+        None => Ok(Vec::new(alloc)),
+    }
+}
+
 // Returns what is told of a program of which not all is seen.
 fn tell_gaps<A: Allocator + Copy>(
     alloc: A,
@@ -1648,10 +1669,7 @@ fn tell_gaps<A: Allocator + Copy>(
     judged: &Judged<A>,
     why: Unseen,
 ) -> Result<Parts<A>, OutOfMemory> {
-    let lines = match place_of(program, judged.ways.as_slice(), why) {
-        Some(at) => unseen_lines(alloc, program, at, why)?,
-        None => Vec::new(alloc),
-    };
+    let lines = lines_for(alloc, program, judged.ways.as_slice(), why)?;
     let mut out = Text::new(alloc);
     let counts = count(alloc, program)?;
     let (tables, words) = (judged.tables.len(), judged.words.len());
@@ -1803,7 +1821,11 @@ use std::fmt::{self, Write};
 
 // Returns what an instruction does with what isn't seen.
 fn what_of(i: &Instruction) -> &'static str {
-    if i.operand() == OFFER { "offers" } else { "puts" }
+    if i.operand() == OFFER {
+        "offers"
+    } else {
+        "puts"
+    }
 }
 
 // Tells of an instruction why what it offers or puts isn't seen.
@@ -1880,7 +1902,9 @@ use std::fmt::{self, Write};
 
 /// The most instructions of the NMI, the most bytes that it may push, and the program.
 const MOST_FUEL: u16 = 800;
+
 const MOST_ROOM_OF_NMI: u16 = 29;
+
 const MOST_ROOM: u16 = 223;
 
 /// Whether a place is one of the game's code.

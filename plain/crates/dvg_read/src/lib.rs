@@ -276,9 +276,7 @@ pub enum TextFault {
     #[error("game size {0}: wanted are 8192 bytes, 2048 of the vector ROM and 6144 of the program")]
     GameSize(usize),
     /// A game has more than 8,192 bytes.
-    #[error(
-        "game size 8193 or more: wanted are 8192 bytes, 2048 of the vector ROM and 6144 of the program"
-    )]
+    #[error("game size 8193 or more: wanted are 8192 bytes, 2048 of the vector ROM and 6144 of the program")]
     LongGame,
     /// The line of this number, counted from 1, spells nothing that may stand at its place.
     #[error("syntax at line {0}")]

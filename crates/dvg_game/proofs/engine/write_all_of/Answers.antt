@@ -12,4 +12,4 @@ pub returns : goal.returns
 returns g c =
     let head = c.args.opening.now ++ flat_map (λ line. line.bytes.items) c.args.lines.now in
     writes_second g.W.Write.contents head c.args.more.now c.write_lines.result
-    c.args.writer.now c.write_opened.new.writer c.write_lines.new.writer (search rules) c.write_opened.ensures
+    c.args.writer.now c.write_opened.new.writer c.write_lines.new.writer (search rules) c.write_lines.ensures

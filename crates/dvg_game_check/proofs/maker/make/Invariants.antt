@@ -2,4 +2,4 @@ use Rattle.std.proofs.Common.{◌≡◌, length}
 use Rattle.dvg_game_check.proofs.maker.make.Given as goal
 
 abbrev pub invariant-loop-i : goal.invariant-loop-i
-invariant-loop-i l = length l.notes.items ≡ l.i
+invariant-loop-i g l = length l.notes.items ≡ l.i

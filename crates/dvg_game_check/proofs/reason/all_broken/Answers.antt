@@ -9,7 +9,7 @@ use Rattle.dvg_game_check.proofs.reason.all_broken.Goals as goal
 use Rattle.dvg_game_check.proofs.reason.all_broken.Goals.{then-not-fine_place+in_ok-push, else-not-fine_place}
 
 pub loop-i-preserved : goal.loop-i-preserved
-loop-i-preserved c =
+loop-i-preserved g c =
     elim c.if-not-fine_place.branch [
       | then-not-fine_place+in_ok-push w ↦
           let one : Broken = record { at = 0x6A87 + c.loop-i.i; rule = w.why-rule.result } in
@@ -34,7 +34,7 @@ loop-i-preserved c =
     ]
 
 pub returns : goal.returns
-returns c = record {
+returns g c = record {
   each = c.loop-i.invariant.0;
   others = λ k less. c.loop-i.invariant.1 k (omega (arith, places_are, less));
 }
