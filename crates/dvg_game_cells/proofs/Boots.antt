@@ -196,8 +196,8 @@ module _ (R image : List ℕ) (held rom : ℕ → ℕ) (start : ℕ) (cpu : Cpu)
         (went list claim (suc n) (omega (arith, less))) some
 
     -- one of a 6502 that boots
-    boots_then : {amid : Option ℕ} → IsBoot rom start amid cpu → nat_eq cpu.pc start ≡ false → (list : List Turn)
-        (claim : Claim list) → IsBoot rom start amid (last list claim)
+    boots_then : {spot : Option (Cpu × ℕ)} {amid : Option ℕ} → IsBoot rom start spot amid cpu → nat_eq cpu.pc start ≡ false → (list : List Turn)
+        (claim : Claim list) → IsBoot rom start spot amid (last list claim)
     boots_then boot before list claim = by_step claim.flags (by_turn claim.mem boot claim.bytes claim.turned) before claim.small
 
     half_of : (spot : Option (Cpu × ℕ)) → On spot older → (list : List Turn) (two : Two) → counted list < cycles (instr_of cpu)
@@ -305,7 +305,7 @@ module _ (R image : List ℕ) (held rom : ℕ → ℕ) (start : ℕ) (cpu : Cpu)
           by (txs at) = subst AreQuiet (sym (ap (λ o. (does (decoded opcodes o) now).log) (opcode_so ∙ at.opcode))) tt
 
       module _ (g : Went it list claim 0) (doing : Does list) (spot : Option (Cpu × ℕ)) (on : On spot older)
-          (boot : IsBoot rom start None cpu) (count : counted list ≡ cycles (instr_of cpu)) where
+          (boot : IsBoot rom start spot None cpu) (count : counted list ≡ cycles (instr_of cpu)) where
         close_then : (cells_after held older cells list).due ≡ 1 → calms cells (cycled list) calm ≤ 6
         close_then some = by (timed it list claim g doing count).0
           where
@@ -361,7 +361,7 @@ module _ (R image : List ℕ) (held rom : ℕ → ℕ) (start : ℕ) (cpu : Cpu)
                 (rests_then it list claim g doing) doing_new (λ none. inl (omega arith)) (λ some. (omega arith, close_then some))
 
   module _ (spot : Option (Cpu × ℕ)) (left : ℕ) (on : On spot older) (so : Boots R image held rom start left cpu)
-      (boot : IsBoot rom start None cpu) where
+      (boot : IsBoot rom start spot None cpu) where
     -- an instruction up to the TXS
     module _ (free : cells.due ≡ 0) where
       pub starts_unread : (list : List Turn) → 0 < counted list → counted list < cycles (instr_of cpu) → Does list
@@ -423,7 +423,7 @@ module _ (R image : List ℕ) (held rom : ℕ → ℕ) (start : ℕ) (cpu : Cpu)
   -- an instruction of its routine
   module _ (spot : Option (Cpu × ℕ)) (left : ℕ) (on : On spot older) (back : Cpu) (since : ℕ)
       (so : Boots R image held rom start left back) (early : Early rom start back since cpu)
-      (boot : IsBoot rom start (Some back.pc) cpu) (free : cells.due ≡ 0)
+      (boot : IsBoot rom start spot (Some back.pc) cpu) (free : cells.due ≡ 0)
       (close : calm ≤ 6 * since + 13) where
     nmi_ready : IsByteWide cpu → Ready
     nmi_ready bytes = let place = early_place early in record {

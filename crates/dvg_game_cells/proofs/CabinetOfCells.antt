@@ -31,7 +31,7 @@ use Rattle.dvg_game_board.specs.Keeps.{GameKeepsHeadline, GamesKeep, VectorsKeep
 use Rattle.dvg_game_board.proofs.SharedRam.{Laws}
 use Rattle.dvg_game_cells.specs.Whole.{IsDriven, IsCellsRun, Finds, calm_after, work_after}
 use Rattle.dvg_game_cells.specs.Whole as whole
-use Rattle.dvg_game_cells.specs.Keeps.{AreBooting, CellsKeep, GamesOnCellsKeep, StandAt, VectorsOnCellsKeep}
+use Rattle.dvg_game_cells.specs.Keeps.{AreBooting, CellsKeep, GamesOnCellsKeep, MayBoot, StandAt, VectorsOnCellsKeep}
 use Rattle.dvg_game_cells.specs.GoesOn.{answer}
 use Rattle.dvg_game_cells.proofs.Walks.{quietly, second_half}
 use Rattle.dvg_game_cells.proofs.CellsTask.{Asked, Doing, Shares, Spot, Stand, Task, calm_in, counted, calms, works, wrote, stands, wakes, starts, breaks, handles}
@@ -76,7 +76,7 @@ module _ (laws : Laws) (R image : List ℕ) (held rom : ℕ → ℕ) (start : �
       → Task R image held rom start cpu older cells calm n → (list : List Turn) (two : Two) → counted list < n
       → Doing R image held rom start cpu older cells work calm (list ++ acts two ∷ [])
       → Half R image held rom start older cells list two
-  half cpu older cells work calm (wakes spot on holds begin free) list two less doing =
+  half cpu older cells work calm (wakes spot may on holds begin free) list two less doing =
       vectors.wakes_half R image held rom start cpu older cells work calm holds begin free spot on list two less doing
   half cpu older cells work calm (starts spot left on rests boots boot free) list two less doing =
       booting.starts_half R image held rom start cpu older cells work calm rests spot left on boots boot free list two less doing
@@ -93,8 +93,8 @@ module _ (laws : Laws) (R image : List ℕ) (held rom : ℕ → ℕ) (start : �
       → Task R image held rom start cpu older cells calm n → (list : List Turn) → EndsInCycle list → counted list ≡ n
       → Doing R image held rom start cpu older cells work calm list
       → Done R image held rom start cpu older cells work calm list
-  done cpu older cells work calm (wakes spot on holds begin free) list newest count doing =
-      vectors.wakes_done R image held rom start cpu older cells work calm holds begin free game spot on list count doing
+  done cpu older cells work calm (wakes spot may on holds begin free) list newest count doing =
+      vectors.wakes_done R image held rom start cpu older cells work calm holds begin free game spot may on list count doing
   done cpu older cells work calm (starts spot left on rests boots boot free) list newest count doing =
       booting.starts_done R image held rom start cpu older cells work calm rests spot left on boots boot free list count doing
   done cpu older cells work calm (breaks spot left on rests boots boot due close) list newest count doing =
@@ -110,7 +110,7 @@ module _ (laws : Laws) (R image : List ℕ) (held rom : ℕ → ℕ) (start : �
   amid_task : (cpu : Cpu) (older : List Bus) (cells : Cells) (work : ℕ → ℕ) (calm : ℕ) {n : ℕ}
       → Task R image held rom start cpu older cells calm n → (list : List Turn) → 0 < counted list → counted list < n
       → Doing R image held rom start cpu older cells work calm list → sync (cells_after held older cells list) ≡ 0
-  amid_task cpu older cells work calm (wakes spot on holds begin free) list some less doing =
+  amid_task cpu older cells work calm (wakes spot may on holds begin free) list some less doing =
       vectors.wakes_amid R image held rom start cpu older cells work calm holds begin free list less
   amid_task cpu older cells work calm (starts spot left on rests boots boot free) list some less doing =
       booting.starts_unread R image held rom start cpu older cells work calm rests spot left on boots boot free list some less doing
@@ -125,7 +125,7 @@ module _ (laws : Laws) (R image : List ℕ) (held rom : ℕ → ℕ) (start : �
       vectors.hears_amid R image held rom start cpu older cells work calm laws game brought since on rests due late calm_is list less
 
   abbrev At : Cells → List Bus → Type 0
-  At cells clocks = (spot : Option (Cpu × ℕ)) × On spot clocks × (StandAt cells spot ⊎ AreBooting rom start cells)
+  At cells clocks = (spot : Option (Cpu × ℕ)) × On spot clocks × (StandAt cells spot ⊎ AreBooting rom start spot cells)
 
   not_both : (level : ℕ) → level ≡ 1 → level ≡ 0 → ⊥
   not_both level high low = let e = sym low ∙ high in cc
@@ -134,7 +134,7 @@ module _ (laws : Laws) (R image : List ℕ) (held rom : ℕ → ℕ) (start : �
   at_task : (cpu : Cpu) (older : List Bus) (cells : Cells) (work : ℕ → ℕ) (calm : ℕ) {n : ℕ}
       → Task R image held rom start cpu older cells calm n → Shares R image held rom start cpu work older → sync cells ≡ 1
       → At cells older
-  at_task cpu older cells work calm (wakes spot on holds begin free) shares high =
+  at_task cpu older cells work calm (wakes spot may on holds begin free) shares high =
       absurd (not_both (sync cells) high
       (vectors.wakes_amid R image held rom start cpu older cells work calm holds begin free [] (omega arith)))
   at_task cpu older cells work calm (starts spot left on rests boots boot free) shares high =
@@ -161,7 +161,7 @@ module _ (laws : Laws) (R image : List ℕ) (held rom : ℕ → ℕ) (start : �
             here.0,
             quietly R image held rom start here.0 list older cells here.1 (served_of R held list older cells doing.fits doing.given).0
                 (subst (λ l. AreQuiet (made cells l [])) (sym empty) tt),
-            subst (λ c. StandAt c here.0 ⊎ AreBooting rom start c) (sym same) here.2,
+            subst (λ c. StandAt c here.0 ⊎ AreBooting rom start here.0 c) (sym same) here.2,
           )
       by (suc count) some = absurd (not_both (sync (cells_after held older cells list)) high
           (amid_task cpu older cells work calm task list (omega (arith, some)) short doing))
@@ -278,10 +278,10 @@ module _ (laws : Laws) (R image : List ℕ) (held rom : ℕ → ℕ) (start : �
       })
 
   -- a reset begins anew, also that of power-up
-  anew : (spot : Option (Cpu × ℕ)) (cells : Cells) (work : ℕ → ℕ) (calm : ℕ) (clocks : List Bus) → On spot clocks → IsRom R
+  anew : (spot : Option (Cpu × ℕ)) → MayBoot spot → (cells : Cells) (work : ℕ → ℕ) (calm : ℕ) (clocks : List Bus) → On spot clocks → IsRom R
       → AllFit R held clocks cells → ((a : ℕ) → work a < 256) → ((a : ℕ) → rom a < 256) → cells.state ≡ 0 → cells.due ≡ 0
       → Standing cells work calm clocks
-  anew spot cells work calm clocks on is_rom fitting work_in rom_in begin free =
+  anew spot may cells work calm clocks on is_rom fitting work_in rom_in begin free =
       stands (fresh_cpu R image held rom start cells work clocks fitting work_in rom_in) clocks cells work calm 2 [] (record {
         is_rom = is_rom;
         fits = fitting;
@@ -290,7 +290,7 @@ module _ (laws : Laws) (R image : List ℕ) (held rom : ℕ → ℕ) (start : �
         rom_in = rom_in;
         given = tt;
         asked = tt;
-      }) (wakes spot on (fresh_holds R image held rom start cells work clocks fitting work_in rom_in) begin free) (omega arith) (spot, on)
+      }) (wakes spot may on (fresh_holds R image held rom start cells work clocks fitting work_in rom_in) begin free) (omega arith) (spot, on)
 
   -- between two cycles, or amid one
   data Now : Machine → (ℕ → ℕ) → ℕ → List Bus → Type 0 where
@@ -325,7 +325,7 @@ module _ (laws : Laws) (R image : List ℕ) (held rom : ℕ → ℕ) (start : �
         let h = holding s in
         let bus = reset_bus held clocks cells drive in
         let on = resets bus h.on (reset_is R held clocks cells drive h.fitting asks.nmi asks.vector_rom asks.m) (served_by asks) (refl, refl) refl in
-        rests (anew None (clock here (resetting drive)).cpu work calm (bus ∷ clocks) on h.is_rom
+        rests (anew None tt (clock here (resetting drive)).cpu work calm (bus ∷ clocks) on h.is_rom
         (reset_fits R held clocks cells drive h.fitting asks.nmi asks.vector_rom asks.m) h.work_in h.rom_in refl refl)
 
     first_clock : (reset ready : ℕ) (drive : Drive) → reset < 2 → ready < 2 → Asks here work calm (pins_by reset ready drive)
@@ -413,7 +413,7 @@ module _ (laws : Laws) (R image : List ℕ) (held rom : ℕ → ℕ) (start : �
   now : {machine : Machine} {work : ℕ → ℕ} {calm : ℕ} {clocks : List Bus}
       → IsCellsRun R image held rom machine work calm clocks → Now machine work calm clocks
   now (whole.powers work calm is_rom is_image first held_in work_in rom_in) =
-      rests (anew None zeros work calm [] (powers is_rom is_image first) is_rom
+      rests (anew None tt zeros work calm [] (powers is_rom is_image first) is_rom
       (record { of_cells = fits.0; of_board = record { read = lit< tt; ran = lit< tt; ram = held_in } }) work_in rom_in refl refl)
   now (whole.ticks pins on asks) = tick pins (now on) asks
 
@@ -454,7 +454,7 @@ module _ (laws : Laws) (R image : List ℕ) (held rom : ℕ → ℕ) (start : �
     spot : Option (Cpu × ℕ)
     on : On spot clocks
     board : machine.board ≡ after held clocks
-    registers : machine.answers ≡ 0 → sync machine.cpu ≡ 1 → StandAt machine.cpu spot ⊎ AreBooting rom start machine.cpu
+    registers : machine.answers ≡ 0 → sync machine.cpu ≡ 1 → StandAt machine.cpu spot ⊎ AreBooting rom start spot machine.cpu
 
   find : {machine : Machine} {work : ℕ → ℕ} {calm : ℕ} {clocks : List Bus} → Now machine work calm clocks → Found machine clocks
   find (rests {cells} {work} {calm} {clocks} s) = by (nat_eq (sync cells) 1) refl

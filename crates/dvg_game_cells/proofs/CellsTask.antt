@@ -17,7 +17,7 @@ use Rattle.dvg_calls_cells.specs.Played.{AreGiven, at_rest, older_after, cells_a
 use Rattle.dvg_calls_cells.proofs.Fits.{AllFit}
 use Rattle.dvg_game_6502.specs.Play.{IsByteWide}
 use Rattle.dvg_game_board.specs.Cabinet.{IsCabinet}
-use Rattle.dvg_game_cells.specs.Keeps.{IsBoot}
+use Rattle.dvg_game_cells.specs.Keeps.{IsBoot, MayBoot}
 use Rattle.dvg_game_cells.specs.Whole.{Finds}
 
 -- the work RAM after a cycle, and after cycles
@@ -92,18 +92,18 @@ module _ (R image : List ℕ) (held rom : ℕ → ℕ) (start : ℕ) where
   -- what they are of, and how many they will be
   pub data Task (cpu : Cpu) (older : List Bus) (cells : Cells) (calm : ℕ) : ℕ → Type 0 where
     -- a reset reads its vector
-    wakes : (spot : Option (Cpu × ℕ)) → IsCabinet R image held rom start spot older → Holds cells cpu → cells.state ≡ 0
+    wakes : (spot : Option (Cpu × ℕ)) → MayBoot spot → IsCabinet R image held rom start spot older → Holds cells cpu → cells.state ≡ 0
         → cells.due ≡ 0 → Task cpu older cells calm 2
     -- an instruction up to the TXS
     starts : (spot : Option (Cpu × ℕ)) (left : ℕ) → IsCabinet R image held rom start spot older → Rests cells cpu
-        → Boots left cpu → IsBoot rom start None cpu → cells.due ≡ 0 → Task cpu older cells calm (cycles (instr_of cpu))
+        → Boots left cpu → IsBoot rom start spot None cpu → cells.due ≡ 0 → Task cpu older cells calm (cycles (instr_of cpu))
     -- an NMI before the TXS
     breaks : (spot : Option (Cpu × ℕ)) (left : ℕ) → IsCabinet R image held rom start spot older → Rests cells cpu
-        → Boots left cpu → IsBoot rom start None cpu → cells.due ≡ 1 → calm ≤ 6 → Task cpu older cells calm 5
+        → Boots left cpu → IsBoot rom start spot None cpu → cells.due ≡ 1 → calm ≤ 6 → Task cpu older cells calm 5
     -- an instruction of its routine, which leads back to there
     handles : (spot : Option (Cpu × ℕ)) (left : ℕ) → IsCabinet R image held rom start spot older → Rests cells cpu
         → (back : Cpu) (since : ℕ) → Boots left back → Early rom start back since cpu
-        → IsBoot rom start (Some back.pc) cpu → cells.due ≡ 0 → calm ≤ 6 * since + 13 → Task cpu older cells calm (cycles (instr_of cpu))
+        → IsBoot rom start spot (Some back.pc) cpu → cells.due ≡ 0 → calm ≤ 6 * since + 13 → Task cpu older cells calm (cycles (instr_of cpu))
     -- one of the game or of the driver
     plays : (since : ℕ) → IsCabinet R image held rom start (Some (cpu, since)) older → Rests cells cpu → cells.due ≡ 0
         → IsTime since calm → Task cpu older cells calm (cycles (instr_of cpu))

@@ -379,7 +379,7 @@ module _ (laws : Laws) (R image : List ℕ) (held rom : ℕ → ℕ) (start : �
             (record { a = it.bytes.a; x = it.bytes.x; y = it.bytes.y; s = it.bytes.s; mem = claim.bytes }) in
             settle_boot R image held rom start last (Some (turned list claim, since)) boot_most end_older end_cells then_work then_calm
             (on_quiet q.0) rests_then (inl (subst (λ p. boots boot_most rom p start ≡ true) (sym pc_is) fine))
-            (from_vector last loaded pc_is bytes) (doing_then loaded bytes)
+            (from_vector last is loaded pc_is bytes) (doing_then loaded bytes)
             (λ is. (late_then is).1)
         | inr loud ↦ absurd (let e = goes_on list claim 0 g loud in cc)
       ]

@@ -81,7 +81,7 @@ module _ (R image : List ℕ) (held rom : ℕ → ℕ) (start : ℕ) where
   -- the same before the TXS
   pub settle_boot : (cpu : Cpu) (spot : Option (Cpu × ℕ)) (left : ℕ) (older : List Bus) (cells : Cells) (work : ℕ → ℕ) (calm : ℕ)
       → IsCabinet R image held rom start spot older → Rests cells cpu → Boots R image held rom start left cpu
-      → IsBoot rom start None cpu → Doing R image held rom start cpu older cells work calm [] → (cells.due ≡ 1 → calm ≤ 6)
+      → IsBoot rom start spot None cpu → Doing R image held rom start cpu older cells work calm [] → (cells.due ≡ 1 → calm ≤ 6)
       → Stand R image held rom start cells work calm older
   settle_boot cpu spot left older cells work calm on rests boots boot doing close = by cells.due doing.fits.of_cells.due refl
     where

@@ -30,7 +30,7 @@ use Rattle.dvg_game_6502.specs.Play
 use Rattle.dvg_game_6502.specs.Play.{IsByteWide, fresh}
 use Rattle.dvg_game_board.specs.Cabinet.{IsCabinet, nmi, turns}
 use Rattle.dvg_game_board.proofs.SharedRam.{Laws}
-use Rattle.dvg_game_cells.specs.Keeps.{from_vector}
+use Rattle.dvg_game_cells.specs.Keeps.{MayBoot, from_vector}
 use Rattle.dvg_game_cells.proofs.InstructionReads.{InRom}
 use Rattle.dvg_game_cells.proofs.ReadsBeforeWrites.{where_so}
 use Rattle.dvg_game_cells.proofs.CellsTask.{Asked, AreAsked, Doing, calm_in, calms, counted, works, wrote}
@@ -282,9 +282,9 @@ module _ (R image : List ℕ) (held rom : ℕ → ℕ) (start : ℕ) where
           let e = counts list two in
           half_quiet spot on list two doing (reset_so (list ++ acts two ∷ []) (omega (arith, e, less))).0
 
-      pub wakes_done : IsAccepted rom start → (spot : Option (Cpu × ℕ)) → On spot older
+      pub wakes_done : IsAccepted rom start → (spot : Option (Cpu × ℕ)) → MayBoot spot → On spot older
           → (list : List Turn) → counted list ≡ 2 → Does list → Done R image held rom start cpu older cells work calm list
-      wakes_done game spot on list count doing =
+      wakes_done game spot may on list count doing =
           let so = reset_so list (omega (arith, count)) in
           let e = count_of R image held rom start list older cells in
           let g = restarts k cells (cycled list) (holds_k holds) begin (e ∙ count)
@@ -299,7 +299,7 @@ module _ (R image : List ℕ) (held rom : ℕ → ℕ) (start : ℕ) where
           settle_boot R image held rom start (restarted k) spot boot_most (older_after held older cells list)
           (cells_after held older cells list) (works cells (cycled list) work) (calms cells (cycled list) calm)
           (all_quiet spot on list doing so.0) g.rests (inl fine)
-          (from_vector (restarted k) loaded pc_is bytes)
+          (from_vector (restarted k) may loaded pc_is bytes)
           (doing_next list doing (restarted k) with_vectors vectors_turn (sym (ap (λ l. after_writes l with_vectors) g.bus)) loaded bytes)
           (λ due. close due ((timely R held rom list older cells work calm doing.fits doing.given doing.asked).timed none))
         where
