@@ -11,7 +11,9 @@ BUILT are the constants that the page needs beside its modules, as JavaScript. T
     <!--STYLE HASH-->             their digests, for the content security policy, which lets
     <!--SCRIPT HASH-->            nothing else in
 
-The modules come without their imports and exports; so no two of them may give one name twice.
+Each module is a function of its own, which gives the names that others import: so a private name is
+private. Its code has the line of its file, counted from the remark that names it. A name that is
+imported and not exported, and an id that a module asks for and the page hasn't, are refused.
 """
 import base64
 import hashlib
@@ -20,10 +22,11 @@ import re
 import sys
 
 PAGE = os.path.dirname(os.path.realpath(__file__))
-IMPORT = re.compile(r"^import \{[^}]*\} from '\./([a-z]+\.mjs)';\n", re.M)
-GIVEN = re.compile(r'^(?:async )?(?:const|let|class|function) (\w+)(.*)', re.M | re.A)
+IMPORT = re.compile(r"^import (\{[^}]*\}) from '\./([a-z]+)\.mjs';\n", re.M)
+GIVEN = re.compile(r'^export (?:async )?(?:const|class|function) (\w+)(.*)', re.M | re.A)
 # More constants of one line.
 MORE = re.compile(r', ([A-Z][A-Z0-9_]+) = ')
+BUILT = re.compile(r'^const (\w+) = ', re.M)
 
 
 def source(name):
@@ -36,29 +39,50 @@ def wasm():
         return base64.b64encode(file.read()).decode()
 
 
-def collect(name, built, done):
-    """Adds the modules that one stands on, and it, each once, to `done`."""
-    if name in done:
+def given_by(name, text):
+    """The names that a module exports; of what is built those of all its constants."""
+    if name == 'built':
+        return set(BUILT.findall(text))
+    return {given for first, rest in GIVEN.findall(text) for given in [first, *MORE.findall(rest)]}
+
+
+def collect(name, built, texts, wanted):
+    """Adds the modules that one stands on, and it, each once and by its name, to `texts`; and to
+    `wanted` the names that are imported of each."""
+    if name in texts:
         return
-    text = built if name == 'built.mjs' else source(name)
-    for other in IMPORT.findall(text):
-        collect(other, built, done)
-    done[name] = re.sub(r'^export ', '', IMPORT.sub('', text), flags=re.M).strip()
+    text = built if name == 'built' else source(f'{name}.mjs')
+    for names, other in IMPORT.findall(text):
+        collect(other, built, texts, wanted)
+        imported = re.findall(r'\w+', names)
+        missing = set(imported) - given_by(other, texts[other])
+        if missing:
+            sys.exit(f'assemble.py: {other}.mjs gives {name}.mjs no {", ".join(sorted(missing))}')
+        wanted.setdefault(other, set()).update(imported)
+    texts[name] = text
 
 
-def names_of(text):
-    """The names that a module gives to all others."""
-    return [name for first, rest in GIVEN.findall(text) for name in [first, *MORE.findall(rest)]]
+def module_of(name, text, wanted):
+    """A module as a function: its imports, its code, and what it gives."""
+    imports = ''.join(f'const {names} = ${other};\n' for names, other in IMPORT.findall(text))
+    code = re.sub(r'^export ', '', IMPORT.sub('', text), flags=re.M).strip()
+    given = f'return {{ {", ".join(sorted(wanted))} }};\n' if wanted else ''
+    return f'const ${name} = (() => {{ // {name}.mjs\n{imports}{code}\n{given}}})();'
 
 
 def script_of(name, built):
-    modules = {}
-    collect(name, f"{built}const WASM = '{wasm()}';\n", modules)
-    names = [given for text in modules.values() for given in names_of(text)]
-    twice = next((given for k, given in enumerate(names) if given in names[:k]), None)
-    if twice is not None:
-        sys.exit(f'assemble.py: two modules give the name {twice}')
-    return '\n\n'.join(modules.values()).replace('</script', '<\\/script')
+    texts, wanted = {}, {}
+    collect(name.removesuffix('.mjs'), f"{built}const WASM = '{wasm()}';\n", texts, wanted)
+    script = '\n\n'.join(module_of(one, text, wanted.get(one)) for one, text in texts.items())
+    return script.replace('</script', '<\\/script')
+
+
+def check_ids(page, script):
+    """Each id that a module asks for by its name is that of an element."""
+    missing = set(re.findall(r"\bbyId\('([\w-]+)'\)", script)) - set(
+        re.findall(r' id="([\w-]+)"', page))
+    if missing:
+        sys.exit(f'assemble.py: no element is called {", ".join(sorted(missing))}')
 
 
 def digest_of(text):
@@ -70,6 +94,8 @@ def page_of(name, built):
     text = re.sub(r'<!--PART (\S+)-->\n', lambda found: source(found[1]), source(f'{name}.html'))
     style = ''.join(map(source, re.search(r'<!--STYLE (.*\.css)-->', text)[1].split()))
     script = script_of(re.search(r'<!--SCRIPT (.*\.mjs)-->', text)[1], built)
+    if name == 'page':  # a game alone leaves parts of its modules unused
+        check_ids(text, script)
     text = text.replace('<!--STYLE HASH-->', digest_of(style))
     text = text.replace('<!--SCRIPT HASH-->', digest_of(script))
     text = re.sub(r'<!--STYLE (.*\.css)-->', lambda _: style, text)

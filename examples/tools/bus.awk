@@ -6,9 +6,10 @@
 #
 # A row is W or R, a write or a read of the processor, and then an address and a byte, hexadecimal,
 # with `0x` or `$` or without. Commas, semicolons or tabs stand between them, and other columns may
-# come before, as a time. All else is passed over. By the addresses of the Asteroids board, a write
-# of 4000 to 47FF is one of the vector RAM, and one of 3000 is the strobe; a read of 2002 with bit 7
-# clear ends a run, and one of 7FFC or FFFC, the vector of the reset, resets.
+# come before, as a time. All else is passed over; how many rows after the first access that were is
+# told in the end. The board doesn't decode A15, so 8000 higher each place answers, too. A write of
+# 4000 to 47FF is one of the vector RAM, and one of 3000 to 31FF is the strobe; a read of 2002 with
+# bit 7 clear ends a run, and one of 7FFC, the vector of the reset, resets.
 #
 # Such a table doesn't show what the generator fetches. So a run is taken to fetch word zero at the
 # strobe, which is enough for the halves of `dvg torn`. If the bytes that it fetches are rows G,
@@ -59,7 +60,7 @@ function fetch(place, byte) {
 }
 
 function write(address, byte) {
-    if (address == 12288) start_run()
+    if (address >= 12288 && address < 12800) start_run()
     if (address < 16384 || address > 18431) return
     if (address < 16386) zero[address - 16384] = byte
     printf "wrote %03X %02X\n", address - 16384, byte
@@ -67,7 +68,7 @@ function write(address, byte) {
 
 function read(address, byte) {
     if (address == 8194 && byte < 128) end_run("halted")
-    if (address == 32764 || address == 65532) end_run("reset")
+    if (address == 32764) end_run("reset")
 }
 
 BEGIN {
@@ -77,11 +78,20 @@ BEGIN {
 
 { gsub(/^[ "]+|[ "\r]+$/, "") }
 
-(kind = find_kind()) {
-    address = digits($(kind + 1))
+(kind = find_kind()) && (address = digits($(kind + 1))) < 65536 {
+    is_begun = 1
+    address %= 32768
     byte = digits($(kind + 2)) % 256
     kind = toupper(substr($kind, 1, 1))
     if (kind == "W") write(address, byte)
     if (kind == "R") read(address, byte)
     if (kind == "G" && fetches && address >= 16384) fetch(address - 16384, byte)
+    next
+}
+
+/[^ \t]/ && is_begun && !unread++ { first = NR }
+
+END {
+    if (unread)
+        print "bus.awk: rows not understood: " unread ", the first in line " first | "cat 1>&2"
 }

@@ -3,9 +3,11 @@
  * look on. Tested, not proved. */
 import { WordTimes } from './chance.mjs';
 import { KIND } from './engine.mjs';
+import { noCounts } from './judged.mjs';
+import { AT, PART, partRead, partWritten, placeOf } from './places.mjs';
 import { Processor } from './processor.mjs';
 import { AREA, drawnHalf } from './signs.mjs';
-import { Latches, POKEY } from './sounds.mjs';
+import { Latches } from './sounds.mjs';
 
 /* The processor's cycles in a second, from one NMI to the next, and until the watchdog resets. */
 export const HERTZ = 1512000;
@@ -14,13 +16,6 @@ const NMI_EVERY = 6144, WATCHDOG_AFTER = 131072;
 const CLOCK_HALF = 256;
 /* How many microseconds the generator takes for a byte, beside the time of its vector. */
 const BYTE_TIME = 0.5;
-
-/* What stands where. A15 isn't decoded. */
-export const AT = {
-  BANKS: 0x200, RAM_END: 0x400, INPUTS: 0x2000, CLOCK: 0x2001, HALT: 0x2002, TEST: 0x2007,
-  SWITCHES: 0x2800, INPUTS_END: 0x3000, STROBE: 0x3000, OUTPUTS: 0x3200, WATCHDOG: 0x3400,
-  WATCHDOG_END: 0x3600, VECTORS: 0x4000, VECTORS_END: 0x4800, SHAPES_END: 0x5800, END: 0x8000,
-};
 const BANK_BYTES = 0x100;
 
 /* The places of the buttons and switches, as board/asteroids.inc names them. */
@@ -37,17 +32,12 @@ const BOARDS = {
 const CLOSED = 0xFF, OPEN = 0x7F;
 /* What the POKEY of Asteroids Deluxe reads: eight switches more, a coin for a game; random numbers.
  * The memory behind it that keeps 64 bytes without power isn't here. */
-const POKEY_SWITCHES = 0xFD, POKEY_READS = { SWITCHES: POKEY + 8, RANDOM: POKEY + 10 };
+const POKEY_SWITCHES = 0xFD, POKEY_READS = { SWITCHES: AT.POKEY + 8, RANDOM: AT.POKEY + 10 };
 
-/* What is counted from a moment on. Of the runs `drew` are those that drew a half, `broke` those
- * that a fault of their list ended, `left` those that a strobe abandoned, and `firstLeft` is the
- * number of the first of these, from 1 on; `ignored` are strobes. Of the pictures those are
- * `judged` whose runs fetched more than word zero, or are mixed. */
+/* What is counted from a moment on; with how many bytes the generator fetched, how many strobes were
+ * ignored, and the first early byte. */
 function countsOf(cycles) {
-  return {
-    from: cycles, pictures: 0, judged: 0, torn: 0, early: 0, first: null, left: 0, resets: 0,
-    fetched: 0, written: 0, runs: 0, drew: 0, broke: 0, firstLeft: 0, ignored: 0,
-  };
+  return { ...noCounts(), from: cycles, fetched: 0, ignored: 0, first: null };
 }
 
 export class Arcade {
@@ -103,22 +93,23 @@ export class Arcade {
   /* --- The processor's bus --- */
 
   read(address) {
-    const at = address % AT.END;
-    if (at < AT.RAM_END) return this.memory[this.placeOf(at)];
+    const at = placeOf(address);
+    if (at < AT.RAM_END) return this.memory[this.banked(at)];
     return at >= AT.INPUTS && at < AT.INPUTS_END ? this.readInput(at) : this.memory[at];
   }
 
   /* Pages 2 and 3 change places while that output is set. */
-  placeOf(at) { return at < AT.BANKS ? at : at ^ this.swapped; }
+  banked(at) { return at < AT.BANKS ? at : at ^ this.swapped; }
 
   readInput(at) {
-    if (at === AT.HALT) {
+    const part = partRead(at);
+    if (part === PART.HALT) {
       this.catchUp();
       return this.running && !this.wireCut ? CLOSED : OPEN;
     }
-    if (at === AT.CLOCK) return this.processor.cycles & CLOCK_HALF ? CLOSED : OPEN;
-    if (at >= AT.SWITCHES && at < AT.SWITCHES + 4) return this.board.switches[at - AT.SWITCHES];
-    if (this.isDeluxe && at >= POKEY) return this.readPokey(at);
+    if (part === PART.CLOCK) return this.processor.cycles & CLOCK_HALF ? CLOSED : OPEN;
+    if (part === PART.SWITCHES) return this.board.switches[at - AT.SWITCHES];
+    if (this.isDeluxe && at >= AT.POKEY) return this.readPokey(at);
     return this.inputs.has(at) ? CLOSED : OPEN;
   }
 
@@ -128,13 +119,13 @@ export class Arcade {
   }
 
   write(address, byte) {
-    const at = address % AT.END, { banks } = this.board;
+    const at = placeOf(address), part = partWritten(address), { banks } = this.board;
     if (at === banks.at) this.swapped = byte & banks.bit ? BANK_BYTES : 0;
-    if (at < AT.RAM_END) this.memory[this.placeOf(at)] = byte;
-    else if (at >= AT.VECTORS && at < AT.VECTORS_END) this.writeVector(at, byte);
-    else if (at >= AT.STROBE && at < AT.OUTPUTS) this.strobe();
-    else if (at >= AT.WATCHDOG && at < AT.WATCHDOG_END) this.watchedAt = this.processor.cycles;
-    else if (at >= POKEY && at < AT.VECTORS) this.latches.write(at, byte, this.time);
+    if (part === PART.RAM) this.memory[this.banked(at)] = byte;
+    else if (part === PART.VECTORS) this.writeVector(at, byte);
+    else if (part === PART.STROBE) this.strobe();
+    else if (part === PART.WATCHDOG) this.watchedAt = this.processor.cycles;
+    else if (part === PART.OUTPUT) this.latches.write(at, byte, this.time);
   }
 
   /* A byte comes into the vector RAM, after all that the generator has read by now. */
@@ -177,6 +168,7 @@ export class Arcade {
   leave() {
     const { counts } = this;
     if (counts.left++ === 0) counts.firstLeft = counts.runs;
+    counts.struck = counts.left;
   }
 
   /* Lets the generator fetch what it has fetched by now. */

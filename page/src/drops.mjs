@@ -26,6 +26,13 @@ export function whyNotShown(bytes) {
   return TOLD[kindOf(bytes)] ?? '';
 }
 
+/* What `dvg torn` says of a log, in the words of the verdict by halves, which stands beside it. */
+function halvesText(output) {
+  const [, line] = /^torn at (line [0-9]+)/.exec(output) ?? [];
+  if (line !== undefined) return `The first early byte is in ${line}.`;
+  return output.startsWith('no run') ? 'No run drew a half.' : 'No byte is early.';
+}
+
 export class Drops {
   /* `stage` does on the page what a file asks for: `tell` a text in the panel, `record` what
    * happened elsewhere, `showLine` an event of it, and `loadRom`, `loadTrace`, `useDraft`. */
@@ -39,7 +46,7 @@ export class Drops {
     const open = {
       dump: () => this.openDump(name, bytes),
       log: () => this.openLog(name, bytes),
-      bus: () => this.openLog(`${name}, as a log`, new TextEncoder().encode(logOfBus(text()))),
+      bus: () => this.openBus(name, text()),
       rom: () => this.openRom(name, bytes),
       romtext: () => this.openRomText(name, text()),
       trace: () => this.openTrace(name, text()),
@@ -61,16 +68,25 @@ export class Drops {
       + 'and where the beam is then. Walk through it by the arrow keys.', lines);
   }
 
+  /* Shows a table of a bus as a log, and says what of it wasn't understood. */
+  openBus(name, text) {
+    const { log, unread, firstUnread } = logOfBus(text);
+    this.openLog(`${name}, as a log`, new TextEncoder().encode(log), { unread, firstUnread });
+  }
+
   /* Shows a log, up to the line at fault if it has one, where its first picture is torn, or else at
    * the first early byte. */
-  openLog(name, bytes) {
+  openLog(name, bytes, { unread = 0, firstUnread = 0 } = {}) {
     const got = this.engine.run(COMMAND.torn, bytes);
     const fault = /line ([0-9]+)/.exec(got.error);
     const good = fault === null ? bytes : firstLines(bytes, Number(fault[1]) - 1);
-    const recording = new Recording(name, good, this.drawer);
-    const count = counted(recording.length, 'event'), [said] = got.output.split(/:|\n/);
+    const recording = Object.assign(new Recording(name, good, this.drawer), { unread });
+    const count = counted(recording.length, 'event');
+    const rest = unread === 0 ? '' : ` ${counted(unread, 'row')} of the table, the first in line `
+      + `${firstUnread}, weren't understood: of these nothing is said.`;
     this.stage.record(recording, `The log ${name}`, fault === null
-      ? `${count}. dvg torn says: ${said}.` : `${got.error.trim()}. Before that: ${count}.`, []);
+      ? `${count}. ${halvesText(got.output)}${rest}`
+      : `${got.error.trim()}. Before that: ${count}.`, []);
     const torn = recording.pictures.find((picture) => picture.torn);
     const event = torn?.tornAt ?? recording.runs.all.first;
     if (event >= 0) this.stage.showLine(event);

@@ -1,8 +1,9 @@
 /* The last seconds of a game's board, for its rows over time: which half the generator draws, where
  * the game writes, and which byte tore the newest torn picture. Tested, not proved. */
-import { Arcade, AT, HERTZ } from './arcade.mjs';
+import { Arcade, HERTZ } from './arcade.mjs';
 import { RAM_BYTES } from './board.mjs';
 import { KIND } from './engine.mjs';
+import { AT } from './places.mjs';
 import { AREA, ROW, SIGN, areaOf, drawnHalf } from './signs.mjs';
 
 /* The rows have slots of so many cycles, a sixth of a millisecond, and at most so many of them, of

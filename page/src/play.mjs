@@ -1,6 +1,6 @@
 /* A game on the page: it is judged while it runs. Tested, not proved. */
 import { HERTZ } from './arcade.mjs';
-import { VERDICT, judgeProgram } from './checker.mjs';
+import { judgeProgram } from './checker.mjs';
 import {
   gameOf, gameOfFields, isOfGame, isSocketOfProgram, lengthFault, romAlone, unzipped,
 } from './eproms.mjs';
@@ -8,7 +8,7 @@ import { listenToRows } from './gestures.mjs';
 import { base64Of, hex } from './hex.mjs';
 import { byId, setText } from './parts.mjs';
 import {
-  bytesVerdict, picturesVerdict, resetsVerdict, runsVerdict, showVerdict,
+  bytesVerdict, everyVerdict, outcomeOf, picturesVerdict, resetsVerdict, runsVerdict, showVerdict,
 } from './judged.mjs';
 import { KeptArcade } from './past.mjs';
 import { Player, listenToPlayer } from './player.mjs';
@@ -42,14 +42,6 @@ function withMistake(program) {
   return changed;
 }
 
-/* What has come of a change: it tears, is reset, goes dark or goes on; or nothing, as no run has
- * ended. */
-export function outcomeOf({ torn, left, pictures, resets }) {
-  if (torn > 0) return 'tears';
-  if (left + pictures === 0) return 'none';
-  if (resets > 0) return 'reset';
-  return left > pictures ? 'dark' : 'on';
-}
 const OUTCOMES = {
   tears: 'it tears',
   dark: 'it goes dark',
@@ -218,6 +210,9 @@ export class Play extends Player {
   /* Why it is so, by what was counted; by no number that changes, as each change is read aloud. */
   whyText(outcome) {
     const { wireCut, counts } = this.arcade;
+    if (outcome === 'reset' && counts.pictures + counts.left === 0) {
+      return 'nothing writes to the watchdog in time.';
+    }
     if (outcome === 'tears') {
       return 'the game wrote the next picture into the one that was being drawn.';
     }
@@ -337,28 +332,18 @@ export class Play extends Player {
   /* --- In every run --- */
 
   judge() {
-    const { verdict, lines } = judgeProgram(this.program, this.game.shapes, this.driver);
-    const [first, ...others] = lines;
-    if (verdict === VERDICT.REFUSED) {
-      const count = counted(lines.length, 'instruction');
-      showVerdict(byId('every'), { word: 'Refused', color: 'bad', text: `: ${count} may tear a `
-        + 'picture, or lead where this check can\'t follow. Why:' });
-      setText(byId('every-lines'), lines.join('\n'));
-    } else {
-      const isGood = verdict === VERDICT.GOOD;
-      showVerdict(byId('every'), { word: isGood ? 'Accepted' : 'Not sure',
-        color: isGood ? 'good' : 'early', text: `: ${isGood
-          ? 'no run of these bytes tears a picture, while the HALT wire is whole' : first}.` });
-      setText(byId('every-lines'), others.join('\n'));
-    }
-    byId('every').dataset.verdict = verdict;
+    const judged = judgeProgram(this.program, this.game.shapes, this.driver);
+    const every = everyVerdict(judged, this.game);
+    showVerdict(byId('every'), every);
+    setText(byId('every-lines'), every.lines.join('\n'));
+    byId('every').dataset.verdict = judged.verdict;
   }
 
   /* --- In this run --- */
 
   showTexts() {
     const { arcade } = this, { counts } = arcade;
-    const { first } = counts, firstText = first === null ? '.' : this.firstText(first);
+    const { first } = counts, firstText = first === null ? '' : this.firstText(first);
     showVerdict(byId('run-moments'), picturesVerdict(counts));
     showVerdict(byId('run-halves'), bytesVerdict(counts, firstText));
     showVerdict(byId('run-left'), runsVerdict(counts));
@@ -380,7 +365,7 @@ export class Play extends Player {
   /* Which instruction wrote the first early byte. */
   firstText({ at, cycles }) {
     return `, the first by ${this.instructionText(at)}, at ${(cycles / HERTZ).toFixed(2)} s of the `
-      + 'game.';
+      + 'game';
   }
 
   countsText() {

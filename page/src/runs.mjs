@@ -5,9 +5,9 @@ import { KIND } from './engine.mjs';
 import { SIGN, drawnHalf } from './signs.mjs';
 
 /* What is counted of the runs that began with an event or later: how many drew a half, how many
- * bytes came early, and which event wrote the first of these. */
+ * bytes were written, and how many of these early, and which event wrote the first early one. */
 function countsFrom(at) {
-  return { at, drew: 0, early: 0, first: -1 };
+  return { at, drew: 0, written: 0, early: 0, first: -1 };
 }
 
 export class Runs {
@@ -66,6 +66,8 @@ export class Runs {
   write(at, address, value, changes) {
     this.tell(at, KIND.WROTE, address, value);
     const { open } = this;
+    this.all.written++;
+    if (this.since !== this.all) this.since.written++;
     if (open === null) return false;
     const isEarly = this.halves.wrote(address);
     if (isEarly) {

@@ -1,5 +1,6 @@
 /* The boards' sounds: which of them are on, by what is written, and how they are made here, by
  * oscillators and noise. They are rough: the boards have circuits. Tested, not proved. */
+import { AT } from './places.mjs';
 
 /* What is written for them, as board/asteroids.inc names it. */
 export const SOUND = {
@@ -14,8 +15,7 @@ ON_BITS.set(SOUND.EXPLOSION, LOUD_BITS).set(SOUND.THUMP, THUMP_ON);
 /* Asteroids Deluxe has only two of these, and the four voices of a POKEY: of each a byte says how
  * low it is, and the next one how loud, and whether it is a tone. */
 const SOUNDS_OF_DELUXE = [SOUND.EXPLOSION, SOUND.THRUST];
-export const POKEY = 0x2C00;
-const VOICES = [0, 1, 2, 3].map((k) => POKEY + 2 * k + 1), VOICE_LOUD = 0x0F, TONE = 0xA0;
+const VOICES = [0, 1, 2, 3].map((k) => AT.POKEY + 2 * k + 1), VOICE_LOUD = 0x0F, TONE = 0xA0;
 
 /* The bytes that were written last, and since when each sound is on; `changes` are those that
  * nobody has taken yet. Times are in seconds of the board. */

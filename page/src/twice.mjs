@@ -2,8 +2,10 @@
  * same time. At the first picture that tears both stop, and its run can be shown stroke by stroke.
  * Tested, not proved. */
 import { HERTZ } from './arcade.mjs';
-import { VERDICT, judgeProgram } from './checker.mjs';
-import { bytesVerdict, picturesVerdict, resetsVerdict, showVerdict } from './judged.mjs';
+import { judgeProgram } from './checker.mjs';
+import {
+  bytesVerdict, everyVerdict, picturesVerdict, resetsVerdict, showVerdict,
+} from './judged.mjs';
 import { byId, setText } from './parts.mjs';
 import { GAME_KEYS } from './player.mjs';
 import { Program, isDriver } from './programs.mjs';
@@ -11,7 +13,6 @@ import { Screen } from './screen.mjs';
 import { Strip } from './strip.mjs';
 import { TapedArcade, beamOf, comesToBe } from './taped.mjs';
 import { tearCode, tearOfGame } from './tears.mjs';
-import { counted } from './words.mjs';
 
 /* After how many seconds the wire is cut by itself. */
 const CUT_AFTER = 3.5;
@@ -405,15 +406,10 @@ export class Twice {
   }
 
   judge() {
-    const { verdict, lines } = judgeProgram(this.program, this.game.shapes, this.games.driver);
-    const [word, color, text] = {
-      [VERDICT.GOOD]: ['In every run: ', 'good', 'no run of these bytes tears a picture, while the '
-        + 'wire is whole.'],
-      [VERDICT.REFUSED]: ['In every run: ', 'early', `not known: ${counted(lines.length,
-        'instruction')} may tear a picture, or lead where the check can't follow.`],
-    }[verdict] ?? ['In every run: ', 'early', `not known: ${lines[0]}.`];
+    const judged = judgeProgram(this.program, this.game.shapes, this.games.driver);
+    const { color, text } = everyVerdict(judged, this.game);
     const strong = Object.assign(document.createElement('strong'),
-      { className: color, textContent: word });
+      { className: color, textContent: 'In every run' });
     const link = Object.assign(document.createElement('a'),
       { href: '#premises', textContent: 'What that takes' });
     link.addEventListener('click', (event) => {
@@ -422,7 +418,7 @@ export class Twice {
       byId('premises').scrollIntoView({ block: 'nearest' });
       byId('premises').firstElementChild.focus();
     });
-    byId('in-each-run').replaceChildren(strong, `${text} `, link);
+    byId('in-each-run').replaceChildren(strong, `${text.replace(/ Why:$/, '')} `, link);
   }
 
   /* --- Hands --- */

@@ -1,6 +1,7 @@
-/* The verdicts by moments and by halves, of what is shown: of the runs that began since the wire
- * was last changed, and small beside that of all. */
+/* The verdicts by moments and by halves, and of the runs that were abandoned, of what is shown: of
+ * the runs that began since the wire was last changed, and small beside that of all. */
 import { COMMAND, OPTION } from './engine.mjs';
+import { bytesVerdict, noCounts, picturesVerdict, runsVerdict } from './judged.mjs';
 import { byId, setText } from './parts.mjs';
 import { SIGN } from './signs.mjs';
 import { traceOf } from './traces.mjs';
@@ -14,47 +15,34 @@ export function sinceOf({ wires, runs }) {
     : { at: runs.since.at, text: ` since the wire was ${wire.cut ? 'cut' : 'mended'}` };
 }
 
-/* By moments: a word with its colour, what it says of so many pictures, where to look, and the sum
- * of all, where there are more. A picture is judged whose run fetched more than word zero. */
-export function momentsVerdict({ pictures, runs }, since) {
-  const all = pictures.filter(({ judged }) => judged), torn = all.filter((one) => one.torn);
-  const now = all.filter(({ from }) => from >= since.at), tornNow = now.filter((one) => one.torn);
-  const { contradictions, contradicts } = runs;
-  const more = contradictions === 0 ? '' : ` ${counted(contradictions, 'fetch', 'fetches')} read `
-    + 'what was not written: somebody writes who isn\'t in the log.';
-  const sum = all.length === now.length ? '' : `In all ${torn.length} of ${all.length} torn.`;
-  const end = `${since.text}.${more}`, count = counted(now.length, 'picture');
-  if (now.length === 0) return { word: '', color: '', text: `No picture to judge${end}`, sum };
-  if (tornNow.length > 0) {
-    return { word: 'Torn', color: 'bad', text: `: ${tornNow.length} of ${count}${end}`,
-      at: tornNow[0].at, sum };
-  }
-  const each = now.length === 1 ? '1 picture' : `each of ${count}`;
-  const found = contradictions === 0 ? { color: 'good' } : { color: 'bad', at: contradicts };
-  return { word: 'Whole', text: `: ${each}${end}`, sum, ...found };
+/* What is counted of what is shown, of the runs that began since then; and in `at` which event shows
+ * each verdict: a torn picture, or what contradicts, the first early byte, the newest run that was
+ * abandoned. */
+export function countsOf(shown, since) {
+  const { pictures, runs, signs, left, unread = 0 } = shown;
+  const isSince = ({ from }) => from >= since.at;
+  const now = pictures.filter(isSince), torn = now.filter((one) => one.torn);
+  const ended = left.filter((at) => shown.entryAt(at - 1).run >= since.at);
+  const struck = ended.filter((at) => signs[at] === SIGN.ANEW);
+  const { drew, early, written, first } = since.at === 0 ? runs.all : runs.since;
+  const counts = { ...noCounts(), pictures: now.length, judged: now.filter(isJudged).length,
+    torn: torn.length, written, early, drew, left: ended.length, struck: struck.length,
+    contradictions: runs.contradictions, unread, since: since.text };
+  const isContradicted = torn.length === 0 && runs.contradictions > 0;
+  return { counts, at: { moments: isContradicted ? runs.contradicts : torn[0]?.at,
+    halves: early > 0 ? first : undefined, left: ended.at(-1) } };
 }
 
-/* By halves: the same of the bytes that came early, where a run drew a half. */
-export function halvesVerdict({ early, runs }, since) {
-  const counts = since.at === 0 ? runs.all : runs.since;
-  const sum = early === counts.early ? '' : `In all ${counted(early, 'byte')} early.`;
-  if (counts.early > 0) {
-    return { word: 'Early', color: 'early', at: counts.first, sum,
-      text: `: ${counted(counts.early, 'byte')}${since.text}.` };
-  }
-  if (counts.drew > 0) {
-    return { word: 'In time', color: 'good', text: `: each byte${since.text}.`, sum };
-  }
-  return { word: '', color: '', text: `No run drew a half${since.text}.`, sum };
-}
+const isJudged = ({ judged }) => judged;
 
-/* The runs that were abandoned, or null where none was. That a strobe did it is bad. */
-export function leftVerdict(board, since) {
-  const left = board.left.filter((at) => board.entryAt(at - 1).run >= since.at);
-  if (left.length === 0) return null;
-  const isBad = left.some((at) => board.signs[at] === SIGN.ANEW);
-  return { word: 'Abandoned', color: isBad ? 'bad' : '', at: left.at(-1), sum: '',
-    text: `: ${counted(left.length, 'run')}${since.text}.` };
+/* What is said of all runs, where more than those are counted. */
+export function sumsOf({ pictures, early }, { torn, early: earlyNow, judged }) {
+  const all = pictures.filter(isJudged), tornOfAll = all.filter((one) => one.torn).length;
+  return {
+    moments: all.length === judged && torn === tornOfAll ? ''
+      : `In all ${tornOfAll} of ${all.length} torn.`,
+    halves: early === earlyNow ? '' : `In all ${counted(early, 'byte')} early.`, left: '',
+  };
 }
 
 /* Whether the whole log of a board is what `play --all` writes for the same events, up to a cut
@@ -86,18 +74,17 @@ export class Verdicts {
     const key = `${shown.id} ${shown.length} ${shown.wires.length}`;
     if (this.judgedOf === key) return;
     this.judgedOf = key;
-    const isDump = shown.verdict !== undefined, since = sinceOf(shown);
-    byId('verdicts').hidden = isDump;
-    const moments = momentsVerdict(shown, since), halves = halvesVerdict(shown, since);
-    this.show('moments', moments);
-    this.show('halves', moments.word + halves.word === '' ? { ...halves, text: '' } : halves);
-    const left = leftVerdict(shown, since);
-    byId('left').parentElement.hidden = left === null;
-    if (left !== null) this.show('left', left);
+    byId('verdicts').hidden = shown.verdict !== undefined;
+    const { counts, at } = countsOf(shown, sinceOf(shown)), sums = sumsOf(shown, counts);
+    const said = { moments: picturesVerdict(counts), halves: bytesVerdict(counts),
+      left: runsVerdict(counts) };
+    if (said.moments.word + said.halves.word === '') said.halves.text = '';
+    for (const id of Object.keys(said)) this.show(id, said[id], at[id], sums[id]);
+    byId('left').parentElement.hidden = counts.left === 0;
     this.showTorn(shown, isBoard);
   }
 
-  show(id, { word, color, text, at, sum }) {
+  show(id, { word, color, text }, at, sum) {
     const [strong] = byId(id).children;
     setText(strong, word);
     strong.className = color;

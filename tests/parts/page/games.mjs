@@ -28,7 +28,7 @@ import { OPCODES, Processor } from '../../../page/src/processor.mjs';
 import { Program, labelsOf } from '../../../page/src/programs.mjs';
 import { Screen } from '../../../page/src/screen.mjs';
 import { ROW, SIGN, areaOf } from '../../../page/src/signs.mjs';
-import { picturesVerdict, resetsVerdict } from '../../../page/src/judged.mjs';
+import { noCounts, picturesVerdict, resetsVerdict } from '../../../page/src/judged.mjs';
 import { Latches, SOUND, Speaker } from '../../../page/src/sounds.mjs';
 import { Strip } from '../../../page/src/strip.mjs';
 import { TapedArcade, beamOf, comesToBe } from '../../../page/src/taped.mjs';
@@ -1162,7 +1162,7 @@ function judgedOf({ play, parts }, bytes, seconds) {
 // Nothing is green of a program that never ran one instruction, or that draws no frame: one that
 // only waits, and one that stores and strobes, though word zero is no jump.
 function testNothingYet() {
-  const stage = playOnStage(), none = ['/No picture is finished yet. ', '/No byte is judged yet. '];
+  const stage = playOnStage(), none = ['/No picture is finished yet. ', '/No run drew a half yet. '];
   const nothing = [...none, '/No run is finished yet. '];
   expect('no opcode', nothing, judgedOf(stage, programOf([0xFF]), 1));
   expect('it stopped', true, /stopped: /.test(stage.parts['run-counts'].textContent));
@@ -1176,8 +1176,8 @@ function testNothingYet() {
   play.begin('a program', { ...play.game, program: programOf(JMP_SELF) }, '');
   play.takeGuess('on');
   play.run(4);
-  expect('nothing comes of a change', 'You said: it goes on. Nothing has come of it yet: no run '
-    + 'has ended.', play.whatText);
+  expect('a program that hangs is reset', 'You said: it goes on. It is reset again and again: '
+    + 'nothing writes to the watchdog in time.', play.whatText);
 }
 
 // A board that counts its runs by itself, and keeps the numbers of those that a strobe abandoned.
@@ -1484,7 +1484,7 @@ function testCaveTears() {
       resetsVerdict(cut.counts)]);
   expect('of a board that was reset', 'Reset', resetsVerdict({ resets: 2 }).word);
   expect('nothing is whole of which word zero alone was fetched', '',
-    picturesVerdict({ pictures: 9, judged: 0, torn: 0 }).word);
+    picturesVerdict({ ...noCounts(), pictures: 9 }).word);
   // A board whose beam is so slow that the watchdog comes.
   const slow = caveAfter(2, { slow: 8 });
   expect('and the watchdog does come', true, slow.counts.resets > 5);

@@ -15,7 +15,7 @@ import { Board } from '../../../page/src/board.mjs';
 import { AREA, SIGN, areaOf, drawnHalf } from '../../../page/src/signs.mjs';
 import { hex } from '../../../page/src/hex.mjs';
 import { playSteps, replay, stepsOf, traceOf } from '../../../page/src/traces.mjs';
-import { Chance, Proportions, reelOf } from '../../../page/src/chance.mjs';
+import { Chance, Proportions, Random, reelOf } from '../../../page/src/chance.mjs';
 import { Drawer, momentOf } from '../../../page/src/moments.mjs';
 import { fragmentOf, plainFragment, stateOf } from '../../../page/src/links.mjs';
 import { kindOf } from '../../../page/src/files.mjs';
@@ -24,9 +24,8 @@ import { logOfBus } from '../../../page/src/buses.mjs';
 import { readSketch, romOf } from '../../../page/src/sketches.mjs';
 import { SCENES, SCENE_FRAMES } from '../../../page/src/playfield.mjs';
 import { besideOf, tearOf } from '../../../page/src/tears.mjs';
-import {
-  halvesVerdict, leftVerdict, momentsVerdict, sinceOf,
-} from '../../../page/src/verdicts.mjs';
+import { bytesVerdict, picturesVerdict, runsVerdict } from '../../../page/src/judged.mjs';
+import { countsOf, sinceOf, sumsOf } from '../../../page/src/verdicts.mjs';
 import { eventText } from '../../../page/src/words.mjs';
 import { driverOf, driverText, generatorOf } from '../../../page/src/inside.mjs';
 import { Processor } from '../../../page/src/processor.mjs';
@@ -442,24 +441,21 @@ function testSince(what, board, from, changed) {
   const count = `${now.length} picture${now.length === 1 ? '' : 's'}`;
   const each = now.length === 1 ? `Whole: ${count}` : `Whole: each of ${count}`;
   const number = torn.length > 0 ? `Torn: ${torn.length} of ${count}` : each;
-  const moments = momentsVerdict(board, since);
+  const { counts } = countsOf(board, since), moments = picturesVerdict(counts);
   if (now.length > 0) expect(`${what}: by moments`, `${number}${text}.`,
     `${moments.word}${moments.text}`);
   expect(`${what}: the sum`, now.length === board.pictures.length ? ''
-    : `In all ${all.length} of ${board.pictures.length} torn.`, moments.sum);
-  const halves = halvesVerdict(board, since);
+    : `In all ${all.length} of ${board.pictures.length} torn.`, sumsOf(board, counts).moments);
   const drew = board.runs.since.drew > 0 ? 'In time' : '';
-  expect(`${what}: by halves`, early.length > 0 ? 'Early' : drew, halves.word);
+  expect(`${what}: by halves`, early.length > 0 ? 'Early' : drew, bytesVerdict(counts).word);
   const left = board.entries.filter(({ text: did, event, run }, k) => (did === 'started'
     || event.name === 'resetgen' || event.name === 'resetall') && k > 0
     && board.entries[k - 1].run >= from);
+  const struck = left.filter(({ text: did }) => did === 'started');
+  const runs = runsVerdict(counts), isBad = struck.length > 0;
   expect(`${what}: the runs that were abandoned`, left.length === 0 ? 'none'
-    : `${left.length} ${left.some(({ text: did }) => did === 'started') ? 'bad' : ''}`,
-  leftTold(leftVerdict(board, since)));
-}
-
-function leftTold(left) {
-  return left === null ? 'none' : `${/[0-9]+/.exec(left.text)[0]} ${left.color}`;
+    : `${left.length} ${struck.length} ${isBad ? 'bad' : ''}`,
+  runs.word === 'Abandoned' ? `${counts.left} ${counts.struck} ${runs.color}` : 'none');
 }
 
 // How many runs of a log came to their HALT and fetched more than word zero, by the definition
@@ -494,13 +490,15 @@ function testJudged() {
   }
   for (const log of logs) {
     const recording = new Recording('a log', Buffer.from(log), new Drawer(engine));
-    const verdict = momentsVerdict(recording, sinceOf(recording)), wanted = judgedRuns(log);
+    const { counts } = countsOf(recording, sinceOf(recording)), wanted = judgedRuns(log);
+    const verdict = picturesVerdict(counts);
     const what = `judged by moments: ${JSON.stringify(log.slice(0, 60))}`;
     expect(what, wanted, recording.pictures.filter(({ judged }) => judged).length);
     expect(`${what}: its colour`, wanted === 0, verdict.color === '');
     const halves = runProgram(['torn'], log).split(/ at | drew |:/)[0];
-    expect(`${what}: and by halves`, { torn: 'Early', 'not torn': 'In time', 'no run': '' }[halves],
-      halvesVerdict(recording, sinceOf(recording)).word);
+    const inTime = /^wrote /m.test(log) ? 'In time' : '';
+    expect(`${what}: and by halves`, { torn: 'Early', 'not torn': inTime, 'no run': '' }[halves],
+      bytesVerdict(counts).word);
     const count = judgedBy(runProgram(['torn', '--moments'], log));
     if (count !== null) expect(`${what}: so says the program`, wanted, count);
   }
@@ -875,14 +873,34 @@ function testDriverTexts() {
   board.free();
 }
 
+// The log of a table is that of examples/tools/bus.awk: of one whose bytes come early by a mirror,
+// and of random ones, with mirrors, other marks and rows that are no access.
 function testBuses() {
-  const table = 'Time [s],RW,Address,Data\n0.1,W,4000,01\n0.2,W,0x4001,E0\r\n0.3,W,3000,00\n'
-    + '0.4,R,2002,80\n0.5,W,4402,64\n0.6,R,2002,7f\n0.7,W,3000,0\n0.8,W,4005,11\n0.9,R,7FFC,0\n';
-  const log = logOfBus(table);
+  const table = 'Time [s],RW,Address,Data\n0.1,W,C000,01\n0.2,W,0x4001,E0\r\n0.3,W,B1FF,00\n'
+    + '0.4,R,2002,80\n0.5,W,4402,64\n0.6,R,A002,7f\n0.7,W,3000,0\n0.8,W,C005,11\n0.9,W,zz,1\n';
+  const { log, ...others } = logOfBus(table);
   expect('the log of a bus', 'wrote 000 01|wrote 001 E0|started|fetched 000 E001|wrote 402 64|'
-    + 'halted|started|fetched 000 E001|wrote 005 11|reset|', log.split('\n').join('|'));
+    + 'halted|started|fetched 000 E001|wrote 005 11|', log.split('\n').join('|'));
   expect('its verdict', 'torn at line 9: wrote 005 11', runProgram(['torn'], log).split('\n')[0]);
+  expect('what isn\'t understood', '{"unread":1,"firstUnread":10}', JSON.stringify(others));
   expect('a table of a bus', 'bus', kindOf(Buffer.from(table)));
+  const drawn = new Random(5), of = (...some) => some[drawn.below(some.length)];
+  for (let k = 0; k < 200; k++) {
+    const text = Array.from({ length: 40 }, () => {
+      const at = of(0x2002, 0x2003, 0x3000, 0x31FF, 0x3200, 0x4000, 0x4001, 0x4003, 0x47FF, 0x4800,
+        0x7FFC) + of(0, 0x8000, 0, 0x8000, 0x10000);
+      const address = of('', '$', '0x') + at.toString(16), mark = of(',', ';', '\t', ' , ');
+      return [of('1.5', '"2"', '', 'no'), of('R', 'w', '"Write"', 'X', 'G'), address,
+        of('0', '7F', '80', '1ff', 'q')].join(mark) + of('', '\r', ' ');
+    }).join('\n');
+    const { stdout, stderr } = spawnSync('awk', ['-f', `${top}examples/tools/bus.awk`],
+      { input: text });
+    const found = logOfBus(text);
+    expect(`the log of ${JSON.stringify(text)}`, stdout.toString(), found.log);
+    const told = found.unread === 0 ? '' : `bus.awk: rows not understood: ${found.unread}, the `
+      + `first in line ${found.firstUnread}\n`;
+    expect('and what it doesn\'t understand', told, stderr.toString());
+  }
 }
 
 // --- Sketches, and the tear ---
