@@ -1,5 +1,5 @@
 ; A flight through a cave: fire or thrust climbs, and nothing falls. Whoever presses nothing sees it
-; fly itself.
+; fly itself, and hears nothing: the thrust is that of a hand, and so is the wreck.
 ;
 ; Nothing paces its pictures but HALT: each is built while the one before is drawn, and shown as
 ; soon as that is done. Its lines are of scale 9, so a picture takes the beam 34 milliseconds. The
@@ -147,12 +147,15 @@ stays:  sta offset
 moved:  lda wreck
         beq flies
         dec wreck
+        lda wreck
+        sta EXPLOSION       ; as loud as it is new
         bne waits
         jmp new_ship
 waits:  rts
 
 flies:  lda IN_FIRE
         ora IN_THRUST
+        sta SOUND_THRUST
         bpl no_hand
         lda #HAND
         sta hand
@@ -222,6 +225,8 @@ hits:   lda hand
         beq to_middle       ; what flies itself is never wrecked
         lda #WRECKED
         sta wreck
+        lda #0
+        sta SOUND_THRUST
         rts
 
 to_middle:

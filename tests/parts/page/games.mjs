@@ -306,7 +306,7 @@ end)
 
 // Makes a copy of an example for Asteroids Deluxe, with what `make proof` says of it.
 function makeForDeluxe(place, folder, name, edit) {
-  for (const part of ['board', 'crates/dvg_calls_6502', `examples/${folder}`]) {
+  for (const part of ['board', 'crates/dvg_game_words', `examples/${folder}`]) {
     cpSync(`${top}${part}`, `${place}/${part}`, { recursive: true });
   }
   const file = `${place}/examples/${folder}/${name}.s`;
@@ -441,7 +441,7 @@ function testBuilt() {
   if (!hasTools) return console.log('skipped: the bytes of the games: ca65 is not here');
   const { games, driver } = programs();
   expect('the driver\'s bytes', driver, Buffer.from(driverOfPage()).toString('base64'));
-  for (const [folder, game] of GAMES) {
+  for (const [folder, game] of [...GAMES, ['cave', caveOfPage()]]) {
     const [bytes, shapes] = [game.program, game.shapes].map((one) => Buffer.from(one).toString(
       'base64'));
     expect(`the program of ${folder}`, games[folder].program, bytes);
@@ -1399,28 +1399,6 @@ function zipsOf(files) {
   });
 }
 
-// The game of the first view has the bytes that `make` makes of examples/cave, and board/prove
-// accepts these.
-function testCave() {
-  if (!hasTools) return console.log('skipped: the bytes of the cave: ca65 is not here');
-  const folder = `${work}/cave/examples/cave`;
-  for (const name of ['board', 'examples/cave', 'crates/dvg_game_words/specs/Code.antt']) {
-    cpSync(`${top}${name}`, `${work}/cave/${name}`, { recursive: true });
-  }
-  const made = spawnSync('make', ['-s', '-C', folder, 'proof', `DVG=${program}`],
-    { env: { ...process.env, DVG: program } });
-  expect('no run of the cave tears a picture', true,
-    made.stdout.toString().includes('no run of these bytes tears a picture'));
-  const cave = caveOfPage();
-  for (const [name, bytes] of [['game.program', cave.program], ['rom', cave.shapes]]) {
-    expect(`the cave's ${name}`, readFileSync(`${folder}/build/${name}`).toString('base64'),
-      Buffer.from(bytes).toString('base64'));
-  }
-  expect('so says the page', VERDICT.GOOD,
-    judgeProgram(new Program(cave.program, cave.labels), cave.shapes, driverOfPage()).verdict);
-  return null;
-}
-
 // A board of the cave, with what is asked of it, after so many seconds.
 function caveAfter(seconds, changes) {
   const { program: bytes, shapes } = caveOfPage(), arcade = new TapedArcade(engine, bytes, shapes);
@@ -1518,7 +1496,7 @@ const TESTS = [
   testMendedBoard, testRate, testBoard, testNmi,
   testGamepads, testSoundLatches, testSounding, testSpeaker, testSoundButton, testGamePage,
   testMakePage, testGameLinks, testNothingYet, testAnswers, testGameFiles, testOutlines,
-  testCave, testTaped, testCaveTears, testBeams,
+  testTaped, testCaveTears, testBeams,
 ];
 for (const test of TESTS) if (named.length === 0 || named.includes(test.name)) await test();
 end();
