@@ -23,6 +23,7 @@ export const INPUTS = {
   hyperspace: 0x2003, fire: 0x2004, step: 0x2005, slam: 0x2006, test: AT.TEST, coin: 0x2400,
   start1: 0x2403, start2: 0x2404, thrust: 0x2405, right: 0x2406, left: 0x2407,
 };
+const NAMES_OF_INPUTS = new Map(Object.entries(INPUTS).map(([name, at]) => [at, name]));
 /* What the boards differ in, by how long the vector ROM is: the bit of an output by which the banks
  * change places, and the switches on the board: a coin for a game, four ships, English. */
 const BOARDS = {
@@ -52,7 +53,7 @@ export class Arcade {
     this.judge = engine.device();
     this.judge.openJudge();
     this.halves = engine.halves();
-    this.inputs = new Set();
+    Object.assign(this, { inputs: new Set(), asked: new Set() });
     this.board = BOARDS[shapes.length];
     this.isDeluxe = shapes.length > 2048;
     this.latches = new Latches(this.isDeluxe);
@@ -110,6 +111,7 @@ export class Arcade {
     if (part === PART.CLOCK) return this.processor.cycles & CLOCK_HALF ? CLOSED : OPEN;
     if (part === PART.SWITCHES) return this.board.switches[at - AT.SWITCHES];
     if (this.isDeluxe && at >= AT.POKEY) return this.readPokey(at);
+    if (NAMES_OF_INPUTS.has(at)) this.asked.add(NAMES_OF_INPUTS.get(at));
     return this.inputs.has(at) ? CLOSED : OPEN;
   }
 

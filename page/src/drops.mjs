@@ -2,28 +2,46 @@
  * beside the picture, also one that is refused. */
 import { COMMAND, OPTION } from './engine.mjs';
 import { logOfBus } from './buses.mjs';
-import { firstLines, kindOf } from './files.mjs';
+import { firstLines, isText, kindOf } from './files.mjs';
 import { withoutOutlines } from './outlines.mjs';
 import { Recording, boardOfDump } from './recordings.mjs';
 import { readSketch } from './sketches.mjs';
-import { counted } from './words.mjs';
+import { counted, grouped } from './words.mjs';
 
-const REFUSED = 'This is neither a game, a dump, a log, a table of a bus, a ROM, a trace nor a '
-  + 'sketch, so it was not opened.';
 /* What is told of files that the page doesn't show. */
 const TOLD = {
-  judged: 'This is what make judge saw of a run. The page doesn\'t show it, but the log of the '
+  judged: () => 'This is what make judge saw of a run. The page doesn\'t show it, but the log of the '
     + 'same run beside it, torn.log.',
-  driven: 'This is what a driver did, without what the generator fetched: nothing of it can be '
+  driven: () => 'This is what a driver did, without what the generator fetched: nothing of it can be '
     + 'judged here. make torn writes a log that can.',
-  pictures: 'This is the vector RAM of each picture that make judge saw, without the vector ROM: '
-    + 'make film draws them.',
-  unknown: REFUSED,
+  pictures: ({ length }) => `This is ${length / 2048} times 2,048 bytes: as make judge keeps the `
+    + 'vector RAM of each picture, or as sockets in one file. The page opens neither: make film '
+    + 'draws such pictures, and sockets are dropped as files of their own.',
+  unsure: ({ length }) => `This has the ${grouped(length)} bytes of ${length === 6144 ? 'a program, '
+    + 'or of a dump with its vector ROM' : 'a dump, or of a large vector ROM'}. ${length === 6144
+    ? 'Its last bytes, which are vectors, lead into no program, and its' : 'Its'} word zero is no `
+    + 'jump, as each driver leaves it. If it is a dump, let its name end in .dump.',
+  unknown: (bytes) => `This is neither a game, a dump, a log, a table of a bus, a ROM, a trace, a `
+    + `list nor a sketch, so it was not opened.${lengthText(bytes)}`,
 };
+/* What has so many bytes. */
+const LENGTHS = { 2048: 'a socket or a vector ROM', 4096: 'a dump', 6144: 'a program',
+  8192: 'a program for Asteroids Deluxe' };
+const NEAR = 16;
+
+/* Whether a file that isn't known has nearly as many bytes as one that is. */
+function lengthText(bytes) {
+  if (bytes.length === 0) return ' It is empty.';
+  const near = Object.keys(LENGTHS).find((length) => Math.abs(length - bytes.length) <= NEAR);
+  if (near === undefined || isText(bytes)) return '';
+  const less = near - bytes.length, count = grouped(Math.abs(less));
+  return ` It has ${grouped(bytes.length)} bytes, ${count} ${less > 0 ? 'fewer' : 'more'} than `
+    + `${LENGTHS[near]}.`;
+}
 
 /* Why a file isn't shown, or '' of one that is. */
-export function whyNotShown(bytes) {
-  return TOLD[kindOf(bytes)] ?? '';
+export function whyNotShown({ name, bytes }) {
+  return TOLD[kindOf(bytes, name)]?.(bytes) ?? '';
 }
 
 /* What `dvg torn` says of a log, in the words of the verdict by halves, which stands beside it. */
@@ -52,9 +70,11 @@ export class Drops {
       trace: () => this.openTrace(name, text()),
       draft: () => this.openDraft(name, text()),
       outline: () => this.openOutlines(name, text()),
+      list: () => this.openList(name, text()),
+      words: () => this.openList(name, this.engine.run(COMMAND.list, bytes).output),
     };
-    const of = kind ?? kindOf(bytes);
-    if (of in TOLD) this.stage.tell(name, TOLD[of], true);
+    const of = kind ?? kindOf(bytes, name);
+    if (of in TOLD) this.stage.tell(name, TOLD[of](bytes), true);
     else open[of]();
   }
 
@@ -75,12 +95,13 @@ export class Drops {
   }
 
   /* Shows a log, up to the line at fault if it has one, where its first picture is torn, or else at
-   * the first early byte. */
-  openLog(name, bytes, { unread = 0, firstUnread = 0 } = {}) {
+   * the first early byte; `shapes` is the vector ROM, if it is known. */
+  openLog(name, bytes, { unread = 0, firstUnread = 0, shapes = null } = {}) {
     const got = this.engine.run(COMMAND.torn, bytes);
     const fault = /line ([0-9]+)/.exec(got.error);
     const good = fault === null ? bytes : firstLines(bytes, Number(fault[1]) - 1);
     const recording = Object.assign(new Recording(name, good, this.drawer), { unread });
+    if (shapes !== null) recording.rom = { ...recording.rom, bytes: shapes };
     const count = counted(recording.length, 'event');
     const rest = unread === 0 ? '' : ` ${counted(unread, 'row')} of the table, the first in line `
       + `${firstUnread}, weren't understood: of these nothing is said.`;
@@ -114,6 +135,21 @@ export class Drops {
     const { text: sketch, fault } = withoutOutlines(text);
     if (fault === '') this.openDraft(name, sketch);
     else this.stage.tell(name, `Of its outlines, this can't be read: ${fault}`, true);
+  }
+
+  /* Opens what `dvg list` prints of words as a frame, which begins in the middle of the screen if
+   * the words don't say where. */
+  openList(name, text) {
+    const lines = text.trim().split('\n').map((line) => line.replace(/^\S+ | \*$/g, '').toLowerCase());
+    while (/^(rtsl|halt)/.test(lines.at(-1))) lines.pop();
+    const bad = lines.find((line) => !/^(labs|vctr|svec) /.test(line));
+    if (bad !== undefined) {
+      this.stage.tell(name, `This is a list of words. It can't be drawn alone, for ${bad}: drop the `
+        + 'dump that it is of.', true);
+      return;
+    }
+    if (!lines[0].startsWith('labs')) lines.unshift('labs 512 512 0');
+    this.openDraft(name, `# ${name}\n${lines.join('\n')}\nhalt\n`);
   }
 
   openDraft(name, text) {

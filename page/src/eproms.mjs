@@ -1,7 +1,7 @@
 /* What a game is dropped as: its program, its sockets, its vector ROM, its labels, a zip of these,
  * or the page that `make page` wrote; and the games that are built in. */
 import { isText, kindOf } from './files.mjs';
-import { bytesOfBase64 } from './hex.mjs';
+import { bytesOfBase64, hex } from './hex.mjs';
 import { labelsOf } from './programs.mjs';
 import { NMI_VECTOR, PROGRAM_END, RESET_VECTOR, START } from './tables.mjs';
 import { grouped } from './words.mjs';
@@ -84,6 +84,31 @@ export function lengthFault(files) {
     return `${name} has ${grouped(bytes.length)} bytes: ${part} has ${grouped(least)}${deluxe}.`;
   }
   return '';
+}
+
+/* Of the files the first that has the length of a program and is none, as its vectors lead nowhere,
+ * as a text; or ''. It is called a program, or has the length of none but one, or a vector ROM is
+ * beside it. */
+export function vectorsFault(files) {
+  const hasRom = files.some(({ name, bytes }) => name === 'rom' || namedShapes({ name, bytes }));
+  const isMeant = ({ name, bytes }) => /\.program$/.test(name) || bytes.length === DELUXE.program
+    || (hasRom && bytes.length === ASTEROIDS.program);
+  const file = files.find((one) => PROGRAM_BYTES.includes(one.bytes.length) && isMeant(one)
+    && !isText(one.bytes) && !hasVectors(one.bytes));
+  if (file === undefined) return '';
+  const { name, bytes } = file;
+  const [nmi, reset] = [NMI_VECTOR, RESET_VECTOR].map((vector) => {
+    const at = bytes.length - (PROGRAM_END - vector);
+    return hex(bytes[at] + 256 * bytes[at + 1], 4);
+  });
+  return `${name} has the length of a program, but its vectors lead nowhere: by its last six bytes `
+    + `an NMI goes to ${nmi}, and a reset to ${reset}. Both must be of its own code.`;
+}
+
+/* Whether a file is of the shapes, by its socket's name or by its length. */
+function namedShapes(file) {
+  return [ASTEROIDS, DELUXE].some((board) => namedSocket(file, board) < SHAPES_END)
+    || (file.bytes.length === SOCKET_BYTES && kindOf(file.bytes) === 'rom');
 }
 
 /* What is missing, as a text, where files are a vector ROM alone; or ''. */

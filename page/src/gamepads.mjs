@@ -31,3 +31,20 @@ export function padsNow() {
     return [];
   }
 }
+
+/* What gamepads press and release from one look to the next. */
+export class Pads {
+  constructor() { this.held = new Set(); }
+
+  /* Whether a gamepad is there. */
+  get isThere() { return [...padsNow()].some((pad) => pad?.connected); }
+
+  take(press) {
+    const held = heldBy(padsNow());
+    for (const name of held) if (!this.held.has(name)) press(name, true);
+    for (const name of this.held) if (!held.has(name)) press(name, false);
+    this.held = held;
+  }
+
+  clear() { this.held.clear(); }
+}

@@ -108,11 +108,13 @@ function fitCanvas(canvas, width, height) {
   if (canvas.height !== height) canvas.height = height;
 }
 
-/* Canvases that get another size, after which `fitted` is called. Returns what looks at them. */
+/* Canvases that get another size, after which `fitted` is called. `data-most` says how many pixels
+ * one has across at most. Returns what looks at them. */
 export function listenToSizes(canvases, fitted) {
   const fit = () => {
-    const ratio = Math.min(2, devicePixelRatio || 1);
     for (const canvas of canvases) {
+      const most = (Number(canvas.dataset.most) || Infinity) / (canvas.clientWidth || 1);
+      const ratio = Math.min(2, devicePixelRatio || 1, most);
       fitCanvas(canvas, Math.round(canvas.clientWidth * ratio),
         Math.round(canvas.clientHeight * ratio));
     }

@@ -667,10 +667,10 @@ function beginTwice({ both }) {
   twice.begin(name, game, { beam, isStill: wantsLessMotion() });
 }
 
-/* The game of a state; at rest for someone who wants less motion. */
+/* The game of a state; a still of it for someone who wants less motion. */
 function beginGame(state) {
   play.openState(state);
-  if (wantsLessMotion()) play.setPaused(true);
+  if (wantsLessMotion()) play.beginStill();
 }
 
 /* The address tells of a game that is built in which one it is, and what is asked of its board. */
@@ -700,38 +700,44 @@ async function openFiles(files, kind) {
 }
 
 async function openOnBoard(file, kind) {
+  showBoard();
+  await drops.open(file, kind);
+}
+
+function showBoard() {
   if (board === undefined) loadState(FIRST);
   showView(VIEWS.board);
-  await drops.open(file, kind);
 }
 
 /* Opens files as a game on both boards, or says why they are none: of what the board shows, which
  * isn't opened, it returns false. */
 async function openTwice(read) {
-  const { fault, name, game, said } = await play.readGame(read, true), [{ bytes }] = read;
-  const why = fault === '' ? whyNotShown(bytes) : fault ?? '';
+  const { fault, name, game, said } = await play.readGame(read, true);
+  const why = fault === '' ? whyNotShown(read[0]) : fault ?? '';
   if (fault === null) twice.begin(name, game, { said, isStill: wantsLessMotion() });
   else if (why !== '') twice.say(`${read[0].name}: ${why}`);
   return fault === null || why !== '';
 }
 
-/* The run that tore, as a log on the board. */
+/* The run that tore, as a log on the board, with the vector ROM of its game. */
 async function openTape() {
-  const log = new File([twice.log], `of a run of ${twice.name}, its wire cut`);
+  const { log, name, game } = twice;
   history.pushState(null, '', '#');
-  await openOnBoard(log, 'log');
+  showBoard();
+  drops.openLog(`of a run of ${name}, its wire cut`, new TextEncoder().encode(log),
+    { shapes: game.shapes });
 }
 
 /* Opens files as a game, or tells where they were dropped why they are none: a game that is shown
  * stays there. Returns false of what the board shows, which isn't opened. */
 async function openGame(read) {
-  const fault = await play.openFiles(read), [{ name, bytes }] = read;
+  const fault = await play.openFiles(read), [{ name }] = read;
   if (fault === null) {
     showView(VIEWS.game);
     history.replaceState(null, '', '#');
     return true;
   }
-  const isShown = play.isShown && fault === '', why = isShown ? whyNotShown(bytes) : '';
+  const isShown = play.isShown && fault === '', why = isShown ? whyNotShown(read[0]) : '';
   const told = why === '' ? fault : `${name}. ${why}`;
   if (told !== '') {
     if (play.isShown) play.say(told, true);
@@ -1133,7 +1139,10 @@ function listenToHands() {
   const drawAll = () => {
     if (play?.isShown) play.drawAnew();
     else if (twice?.isShown) twice.show();
-    else if (board !== undefined) show();
+    else if (board !== undefined) {
+      screen.key = '';
+      show();
+    }
   };
   fitSizes = listenToSizes(FITTED.map(byId), () => {
     const strips = [play?.strip, twice?.whole.strip, twice?.cut.strip];
@@ -1155,10 +1164,14 @@ function makePlay() {
       .map(([part, text]) => [part, bytesOfBase64(text)]));
     return { name, ...builtGame(bytes, driver), labels: labelsOf(labels) };
   });
-  play = Object.assign(new Play(engine, games, driver), { colors });
+  const routines = new Map(lines.map(({ at, source }) => [source.split(':')[0], at]));
+  play = Object.assign(new Play(engine, games, driver, routines), { colors });
   byId('games').replaceChildren(...games.map(({ name }, k) => {
     const button = Object.assign(document.createElement('button'), { textContent: name });
-    button.addEventListener('click', () => play.openBuilt(k));
+    button.addEventListener('click', () => {
+      play.askNothing();
+      play.openBuilt(k);
+    });
     return button;
   }));
   play.onChange = showAddress;
@@ -1174,6 +1187,7 @@ function makeTwice(games, driver) {
     location.hash = plainFragment({ both: byId('both-game').value });
   });
   byId('these-bytes').addEventListener('click', openTape);
+  twice.fit = () => fitSizes();
   listenToTwice(twice);
 }
 

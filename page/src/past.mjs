@@ -4,12 +4,15 @@ import { Arcade, HERTZ } from './arcade.mjs';
 import { RAM_BYTES } from './board.mjs';
 import { KIND } from './engine.mjs';
 import { AT } from './places.mjs';
+import { isDriver } from './programs.mjs';
 import { AREA, ROW, SIGN, areaOf, drawnHalf } from './signs.mjs';
 
 /* The rows have slots of so many cycles, a sixth of a millisecond, and at most so many of them, of
  * four seconds. Of more the oldest are forgotten, a second of them. */
 export const SLOT_CYCLES = 256, MOST_SLOTS = 24000;
 const FORGOTTEN_SLOTS = MOST_SLOTS / 4;
+/* How many cycles before a run a store of the game's own may be to be told beside its tear. */
+const OWN_BEFORE = HERTZ / 10;
 
 /* A number for each slot of both rows. */
 function numbersOfRows() {
@@ -30,6 +33,8 @@ export class Past {
     this.replaced = new Uint8Array(RAM_BYTES);
     this.wasEarly = new Uint8Array(RAM_BYTES);
     this.run = { began: Infinity, ram: new Uint8Array(RAM_BYTES) };
+    // The last store of the game's own into the vector RAM, by no routine of the driver.
+    this.own = null;
   }
 
   /* --- Slots --- */
@@ -91,6 +96,7 @@ export class Past {
     this.sign(ROW.DRIVER, slot, sign);
     areas[slot] = Math.max(areas[slot], areaOf(place >> 1));
     if (isEarly) this.run.early++;
+    if (!isDriver(by)) this.own = { at: cycles, by, place };
     if (byte === before) return;
     this.changedAt[place] = cycles;
     this.changedBy[place] = by;
@@ -133,7 +139,9 @@ export class Past {
   keepTorn(done, picture, ram) {
     const { byte, began } = this.run;
     if (byte === null) return;
-    this.torn = { picture, byte, began, done, before: this.run.ram.slice(), after: ram.slice() };
+    const own = this.own?.at >= began - OWN_BEFORE ? this.own : null;
+    this.torn = { picture, byte, own, began, done, before: this.run.ram.slice(),
+      after: ram.slice() };
   }
 }
 

@@ -2,19 +2,21 @@
 import { HERTZ } from './arcade.mjs';
 import { judgeProgram } from './checker.mjs';
 import {
-  gameOf, gameOfFields, isOfGame, isSocketOfProgram, lengthFault, romAlone, unzipped,
+  gameOf, gameOfFields, isOfGame, isSocketOfProgram, lengthFault, romAlone, unzipped, vectorsFault,
 } from './eproms.mjs';
 import { listenToRows } from './gestures.mjs';
 import { base64Of, hex } from './hex.mjs';
+import { Drawer } from './moments.mjs';
 import { byId, setText } from './parts.mjs';
+import { SLOT_CYCLES } from './past.mjs';
 import {
   bytesVerdict, everyVerdict, outcomeOf, picturesVerdict, resetsVerdict, runsVerdict, showVerdict,
 } from './judged.mjs';
-import { KeptArcade } from './past.mjs';
 import { Player, listenToPlayer } from './player.mjs';
-import { Program, isDriver } from './programs.mjs';
+import { Program, STA, callsOf, hasDriver, isDriver } from './programs.mjs';
 import { ROW, SIGN } from './signs.mjs';
 import { Strip } from './strip.mjs';
+import { TapedArcade } from './taped.mjs';
 import { redText, tearCode, tearOfGame } from './tears.mjs';
 import { areaName, counted } from './words.mjs';
 
@@ -24,21 +26,22 @@ const TEXTS_AFTER = 200;
 const ROWS_EVERY = 4;
 /* How many seconds of the board go by until what comes of a change is told. */
 const ANSWER_AFTER = 3;
+/* After how many seconds of a game its picture is a still. */
+const STILL_SECONDS = 3;
 /* What a beginning presses by itself: the button, from which second on, and until which. */
 const OPENING = [['coin', 0.4, 0.6], ['start1', 1, 1.3]];
-/* The mistake that a game may have: the first stores into the vector RAM in place of a put. */
-const PUT_CALL = [0x20, 0x57, 0x69], STORES_AT = [0x4004, 0x4404], STA = 0x8D;
+/* The mistake that a game may have: stores into the vector RAM in place of the calls of a routine
+ * of the driver, into these places in turn. */
+const MISTAKEN = 'dvg_put', STORES_AT = [0x4004, 0x4404];
 
-/* A program in which calls of dvg_put, if it has some, became stores into the list that is drawn.
- */
-function withMistake(program) {
-  const changed = program.slice();
-  let count = 0;
-  for (let at = 0; at + 2 < changed.length; at++) {
-    if (!PUT_CALL.every((byte, k) => changed[at + k] === byte)) continue;
-    const to = STORES_AT[count++ % STORES_AT.length];
-    changed.set([STA, to & 0xFF, to >> 8], at);
-  }
+/* A program in which the calls of that routine, if it has some, became stores into the list that is
+ * drawn. A call is an instruction that may be reached; `routines` are the driver's, by name. */
+export function withMistake(program, routines) {
+  const changed = program.bytes.slice(), calls = callsOf(program, routines.get(MISTAKEN));
+  calls.forEach((at, k) => {
+    const to = STORES_AT[k % STORES_AT.length];
+    changed.set([STA, to & 0xFF, to >> 8], at - program.low);
+  });
   return changed;
 }
 
@@ -58,17 +61,19 @@ function writingText(sign, area) {
 }
 
 export class Play extends Player {
-  /* `games` are those that are built in, and `driver` the driver's bytes. */
-  constructor(engine, games, driver) {
+  /* `games` are those that are built in, `driver` the driver's bytes, and `routines` where its
+   * labels are. */
+  constructor(engine, games, driver, routines) {
     super(engine);
-    Object.assign(this, { games, driver, program: null, textsAt: 0, guess: null, asks: false });
+    Object.assign(this, { games, driver, routines, program: null, textsAt: 0, guess: null });
+    Object.assign(this, { asks: false, drawer: new Drawer(engine) });
     Object.assign(this, { number: -1, turns: 0, mayAsk: true, onChange: () => {} });
     // The moment of the rows that somebody looks at, if so, and the torn picture.
     Object.assign(this, { moment: null, looked: null, colors: null });
     this.strip = new Strip(byId('past'));
   }
 
-  boardOf(program, shapes) { return new KeptArcade(this.engine, program, shapes); }
+  boardOf(program, shapes) { return new TapedArcade(this.engine, program, shapes); }
 
   /* --- Games --- */
 
@@ -85,14 +90,14 @@ export class Play extends Player {
     const name = list.map((file) => file.name).join(', ');
     const files = await unzipped(list).catch(() => null);
     if (files === null) return { fault: `${name}: it can't be unpacked.` };
-    const fault = lengthFault(files) || (isWanted ? romAlone(files) : '');
+    const fault = lengthFault(files) || vectorsFault(files) || (isWanted ? romAlone(files) : '');
     if (fault !== '') return { fault };
     const isGame = [...list, ...files].some(({ bytes }) => isOfGame(bytes))
       || (isWanted && files.some(isSocketOfProgram));
     const game = isGame ? gameOf(files) : null;
     if (game === null) return { fault: '' };
-    const shapes = game.hasShapes ? '' : ' Its vector ROM isn\'t among them, so it calls nothing: '
-      + 'drop both at once.';
+    const shapes = game.hasShapes ? '' : ' Its vector ROM isn\'t among them, so what it calls draws '
+      + 'nothing: drop both at once.';
     const sockets = game.missing === '' ? '' : ` ${game.missing} of its sockets aren't among them.`;
     return { fault: null, name, game, said: `${name}.${sockets}${shapes}` };
   }
@@ -100,8 +105,17 @@ export class Play extends Player {
   /* Begins the game that files are of. Returns the fault, or null. */
   async openFiles(list) {
     const { fault, name, game, said } = await this.readGame(list, this.isShown);
-    if (fault === null) this.begin(name, game, said);
-    return fault;
+    if (fault !== null) return fault;
+    this.askNothing();
+    this.begin(name, game, said);
+    return null;
+  }
+
+  /* Asks nothing of the board that it isn't by itself: so a game that is chosen is a fresh one. */
+  askNothing() {
+    byId('game-wire').setAttribute('aria-pressed', 'false');
+    byId('beam').value = '1';
+    byId('strobes-ignored').checked = false;
   }
 
   /* Says something beside what opens a game: the game that is there goes on. */
@@ -118,7 +132,8 @@ export class Play extends Player {
     });
     this.say(said);
     byId('mistake').checked = false;
-    const isSame = withMistake(game.program).every((byte, k) => byte === game.program[k]);
+    const changed = withMistake(new Program(game.program), this.routines);
+    const isSame = changed.every((byte, k) => byte === game.program[k]);
     byId('mistake').parentElement.hidden = isSame;
     byId('mistake-note').hidden = isSame;
     this.restart();
@@ -128,9 +143,12 @@ export class Play extends Player {
   /* Begins the game anew, as what is asked of it is now. */
   restart() {
     const { program, shapes, labels } = this.game;
-    const bytes = byId('mistake').checked ? withMistake(program) : program;
+    const bytes = byId('mistake').checked ? withMistake(new Program(program), this.routines)
+      : program;
     this.insert(bytes, shapes);
     this.program = new Program(bytes, labels);
+    this.hasDriver = hasDriver(this.program, this.driver);
+    byId('tube-play').hidden = true;
     this.changeBoard('the game began');
     this.judge();
     this.setPaused(false);
@@ -201,7 +219,10 @@ export class Play extends Player {
     if (asks) return 'What will come of it?';
     const outcome = outcomeOf(arcade.counts), said = guess === null ? ''
       : `You said: ${OUTCOMES[guess]}. `;
-    if (arcade.seconds < ANSWER_AFTER) return `${said}Watch it for ${ANSWER_AFTER} seconds.`;
+    if (arcade.seconds < ANSWER_AFTER) {
+      return `${said}${this.isPaused ? 'Press Play, and watch' : 'Watch'} it for ${ANSWER_AFTER} `
+        + 'seconds.';
+    }
     if (outcome === 'none') return `${said}Nothing has come of it yet: no run has ended.`;
     return `${said}${OUTCOMES[outcome][0].toUpperCase()}${OUTCOMES[outcome].slice(1)}: `
       + this.whyText(outcome);
@@ -242,13 +263,15 @@ export class Play extends Player {
     if (!isPaused) {
       Object.assign(this, { moment: null, looked: null });
       setText(byId('past-text'), '');
+      byId('tube-play').hidden = true;
     }
     super.setPaused(isPaused);
   }
 
   /* The rows of a game that goes on are drawn with every fourth picture. */
   draw() {
-    super.draw();
+    if (this.moment === null || this.looked !== null) super.draw();
+    else this.drawMoment();
     this.turns = this.isPaused ? 0 : (this.turns + 1) % ROWS_EVERY;
     if (this.turns === 0) this.drawStrip();
   }
@@ -257,6 +280,39 @@ export class Play extends Player {
     const { strip, moment } = this, { past } = this.arcade;
     if (moment === null) strip.showEnd(past.length);
     strip.draw(past, moment ?? past.length, this.colors);
+  }
+
+  /* The run that is open at the moment that is looked at, or was the last one before that: the
+   * strokes that it has drawn by then, and where the beam is. */
+  drawMoment() {
+    const { arcade, screen } = this, cycles = (arcade.past.from + this.moment) * SLOT_CYCLES;
+    const run = arcade.runAt(cycles), strokes = run === null ? [] : this.strokesOf(run);
+    const { wanted, next, wrong } = run?.isTorn ? this.partsOf(run, strokes)
+      : { wanted: strokes, next: [], wrong: [] };
+    const count = run?.countAt(cycles) ?? 0;
+    screen.drawRun({ strokes, wanted, next, wrong: new Set(wrong) }, count);
+    byId('tube').dataset.strokes = count;
+  }
+
+  /* The strokes of a run; of one that has no picture as far as it came. */
+  strokesOf({ began, strokes, words }) {
+    return strokes ?? this.drawer.strokesOf({ from: began, words });
+  }
+
+  /* What a torn run is made of, by the vector RAM as it began, and as the next one did. */
+  partsOf(run, strokes) {
+    const { taped, ram } = this.arcade, after = taped[taped.indexOf(run) + 1]?.ram ?? ram;
+    run.parts ??= tearOfGame(this.engine, { picture: { strokes }, before: run.ram, after },
+      { bytes: this.game.shapes });
+    return run.parts;
+  }
+
+  /* How much of its run the beam has drawn at the moment that is looked at. */
+  get drawnText() {
+    const { past } = this.arcade, cycles = (past.from + this.moment) * SLOT_CYCLES;
+    const run = this.arcade.runAt(cycles);
+    if (run === null) return '';
+    return ` ${run.countAt(cycles)} of ${counted(this.strokesOf(run).length, 'line')} are drawn.`;
   }
 
   /* Lets the game rest, and the rows be looked at: by default at their end. */
@@ -300,7 +356,7 @@ export class Play extends Player {
     const drawing = drawn === 0 ? 'is halted' : `draws ${areaName(drawn)}`;
     const writing = written === 0 ? '' : `; ${this.instructionText(past.writers[slot])} `
       + writingText(past.signs[ROW.DRIVER][slot], written);
-    return `${time} the generator ${drawing}${writing}.`;
+    return `${time} the generator ${drawing}${writing}.${this.drawnText}`;
   }
 
   /* Shows the byte that tore the newest torn picture: in the rows its moment, amid the run, and on
@@ -321,13 +377,30 @@ export class Play extends Player {
     return `At ${(at / HERTZ).toFixed(4)} s of the game a byte `
       + `${isEarly ? 'came early' : 'was written'}, by ${this.instructionText(by)}. `
       + `${tearCode({ word: byte })} ${later.toFixed(2)} ms later the generator read it: `
-      + `there the tear begins. ${redText(parts.wrong, picture)}`;
+      + `there the tear begins. ${redText(parts.wrong, picture)}${this.ownText(torn)}`;
+  }
+
+  /* Which store of the game's own came before a tear, if one did. The driver waits for HALT: so
+   * with its wire whole that is the cause. */
+  ownText({ own, byte }) {
+    if (own === null || own.by === byte.by || !this.hasDriver) return '';
+    const cause = this.arcade.wireCut ? ''
+      : ' The wire is whole, and the driver waits for HALT: that store is the cause.';
+    return ` The game itself stored into the vector RAM, by ${this.instructionText(own.by)}, at `
+      + `${(own.at / HERTZ).toFixed(4)} s.${cause}`;
   }
 
   /* The picture that is looked at, or the newest one. */
   get seen() { return this.looked?.picture ?? super.seen; }
 
-  tearOf(picture) { return this.looked?.parts ?? super.tearOf(picture); }
+  /* Of a torn picture only that is red which is of another frame. */
+  tearOf(picture) {
+    const { torn } = this.arcade.past;
+    if (this.looked !== null) return this.looked.parts;
+    if (torn?.picture !== picture) return super.tearOf(picture);
+    torn.parts ??= tearOfGame(this.engine, torn, { bytes: this.game.shapes });
+    return { wanted: [], next: [], wrong: torn.parts.wrong };
+  }
 
   /* --- In every run --- */
 
@@ -357,9 +430,9 @@ export class Play extends Player {
     byId('wire-note').hidden = !arcade.wireCut;
   }
 
-  /* An instruction, by its label, or as the driver's. */
+  /* An instruction, by its label, or as the driver's, if the game has it. */
   instructionText(at) {
-    return `${isDriver(at) ? 'the driver, ' : ''}${this.program.where(at)}: ${this.program.at(at)}`;
+    return `${this.hasDriver && isDriver(at) ? 'the driver, ' : ''}${this.program.where(at)}: ${this.program.at(at)}`;
   }
 
   /* Which instruction wrote the first early byte. */
@@ -376,6 +449,16 @@ export class Play extends Player {
     if (arcade.fault !== '') others.push(`stopped: ${arcade.fault}`);
     return `${rate} pictures a second, ${seconds.toFixed(1)} s since ${this.since}: `
       + `${others.join(', ')}.`;
+  }
+
+  /* The game after its first seconds, at rest, with a large button: for who wants less motion. */
+  beginStill() {
+    for (let k = 0; k < STILL_SECONDS * 10; k++) this.run(0.1);
+    this.setPaused(true);
+    this.drawAnew();
+    this.showPads();
+    this.showTexts();
+    byId('tube-play').hidden = false;
   }
 
   tell(now) {
@@ -398,6 +481,7 @@ export function listenToPlay(play) {
   on('strobes-ignored', 'change', () => play.changeBoard());
   on('mistake', 'change', () => play.restart());
   on('show-byte', 'click', () => play.showByte());
+  on('tube-play', 'click', () => play.setPaused(false));
   listenToRows(play.strip, {
     get length() { return play.arcade.past.length; },
     zoom: (factor) => play.zoom(factor), goTo: (moment) => play.goTo(moment),

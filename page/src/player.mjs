@@ -1,11 +1,11 @@
 /* A game on its tube: it runs at its own pace, and takes keys, touches and gamepads. Tested, not
  * proved. */
 import { Arcade, HERTZ } from './arcade.mjs';
-import { heldBy, padsNow } from './gamepads.mjs';
+import { Pads } from './gamepads.mjs';
 import { byId, setText } from './parts.mjs';
 import { Scope } from './scope.mjs';
 import { Screen } from './screen.mjs';
-import { Speaker } from './sounds.mjs';
+import { Ears } from './sounds.mjs';
 
 /* What a frame of the animation makes up for at most, in milliseconds. */
 const MOST_LATE = 100;
@@ -20,9 +20,10 @@ export const GAME_KEYS = {
 export class Player {
   constructor(engine) {
     Object.assign(this, { engine, arcade: null, isShown: false, isPaused: false, script: [] });
-    Object.assign(this, { held: new Set(), speaker: null, isLoud: false });
-    Object.assign(this, { scope: null, isScoped: false });
+    Object.assign(this, { pads: new Pads(), ears: new Ears(byId('sound')) });
+    Object.assign(this, { scope: null, isScoped: false, asked: 0 });
     this.screen = new Screen(byId('tube'));
+    this.press = this.press.bind(this);
     this.frame = this.frame.bind(this);
   }
 
@@ -30,7 +31,8 @@ export class Player {
   insert(program, shapes) {
     this.arcade?.free();
     this.arcade = this.boardOf(program, shapes);
-    this.held.clear();
+    this.pads.clear();
+    this.asked = -1;
   }
 
   boardOf(program, shapes) { return new Arcade(this.engine, program, shapes); }
@@ -64,9 +66,10 @@ export class Player {
     if (!this.isRunning) return;
     const now = performance.now(), passed = Math.min(MOST_LATE, now - this.last);
     this.last = now;
-    this.takePads();
+    this.pads.take(this.press);
     this.run(passed / 1000);
     this.draw();
+    this.showPads();
     this.tell(now);
     requestAnimationFrame(this.frame);
   }
@@ -80,16 +83,14 @@ export class Player {
     for (const [button, from, to] of this.script) arcade.press(button, now >= from && now < to);
     arcade.run(Math.round(seconds * HERTZ));
     if (arcade.number > before) this.seenAt = arcade.processor.cycles;
-    this.sound();
+    this.ears.take(arcade);
   }
 
   /* --- Sounds --- */
 
   /* They are off until somebody asks for them. */
   setLoud(isLoud) {
-    this.isLoud = isLoud;
-    byId('sound').setAttribute('aria-pressed', String(isLoud));
-    if (isLoud) this.speaker ??= new Speaker();
+    if (!this.ears.setLoud(isLoud)) setText(byId('game-said'), NO_SOUND);
     this.hush();
   }
 
@@ -106,18 +107,8 @@ export class Player {
   /* They are heard only while the game runs, and is in view. */
   hush() {
     const { arcade, isScoped } = this, isInView = this.isShown && !document.hidden;
-    const isHeard = this.isLoud && !isScoped && isInView && !this.isPaused;
-    this.speaker?.follow(arcade.latches, isHeard && arcade.fault === '');
+    this.ears.follow(arcade, !isScoped && isInView && !this.isPaused);
     this.scope?.follow(isScoped && isInView);
-  }
-
-  /* Hands on what was written since the frame before. */
-  sound() {
-    const { latches, time: now, fault } = this.arcade;
-    const changes = latches.changes.splice(0);
-    if (!this.speaker?.isOn) return;
-    for (const { at, byte, time } of changes) this.speaker.take(at, byte, now - time);
-    if (fault !== '') this.hush();
   }
 
   /* --- The picture --- */
@@ -152,18 +143,37 @@ export class Player {
     this.arcade.press(name, isDown);
   }
 
-  /* Presses what gamepads hold since the frame before, and releases what they let go. */
-  takePads() {
-    const held = heldBy(padsNow());
-    for (const name of held) if (!this.held.has(name)) this.press(name, true);
-    for (const name of this.held) if (!held.has(name)) this.press(name, false);
-    this.held = held;
+  /* Shows the buttons that the game has read by now, and tells their keys. */
+  showPads() {
+    const { asked } = this.arcade;
+    if (asked.size === this.asked) return;
+    this.asked = asked.size;
+    showButtonsOf(document.querySelectorAll('[data-input]'), asked, 'input');
+    setText(byId('keys-text'), keysText(asked));
   }
 
   releaseAll() {
     this.arcade?.inputs.clear();
-    this.held.clear();
+    this.pads.clear();
   }
+}
+
+/* What is told where the browser makes no sound. */
+export const NO_SOUND = 'This browser makes no sounds.';
+/* The keys of the buttons. */
+const KEY_TEXTS = [['left', 'arrows turn'], ['thrust', 'up thrusts'], ['fire', 'Space fires'],
+  ['hyperspace', 'Shift jumps'], ['coin', '5 is a coin'], ['start1', '1 starts']];
+
+/* The keys of the buttons that a game reads. */
+export function keysText(asked) {
+  const keys = KEY_TEXTS.filter(([name]) => asked.has(name)).map(([, text]) => text);
+  if (keys.length === 0) return 'This game reads no button.';
+  return `Keys: ${keys.join(', ')}. Of a gamepad the stick turns, the lowest button fires.`;
+}
+
+/* Shows those buttons that a game reads; each says in its data which one it is. */
+export function showButtonsOf(buttons, asked, field) {
+  for (const button of buttons) button.hidden = !asked.has(button.dataset[field]);
 }
 
 /* Who clicks a button goes on by the keys of the game; who presses it by a key stays there. */
@@ -192,10 +202,12 @@ export function listenToPlayer(player) {
   document.addEventListener('click', (event) => goOnByKeys(player, event));
   listenToChoices(player);
   listenToGameKeys(player);
-  for (const button of document.querySelectorAll('[data-input]')) listenToTouch(player, button);
+  for (const button of document.querySelectorAll('[data-input]')) {
+    listenToTouch(button, (isDown) => player.press(button.dataset.input, isDown));
+  }
   on('restart', () => player.restart());
   on('pause', () => player.setPaused(!player.isPaused));
-  on('sound', () => player.setLoud(!player.isLoud));
+  on('sound', () => player.setLoud(!player.ears.isLoud));
   on('scope', () => player.setScoped(!player.isScoped));
   document.addEventListener('visibilitychange', () => player.hush());
   addEventListener('blur', () => player.releaseAll());
@@ -218,10 +230,11 @@ function listenToGameKeys(player) {
   }
 }
 
-/* A button is pressed as long as a finger or a key is on it. */
-function listenToTouch(player, button) {
+
+/* A button is down as long as a finger or a key is on it. */
+export function listenToTouch(button, act) {
   const set = (isDown) => (event) => {
-    player.press(button.dataset.input, isDown);
+    act(isDown);
     button.classList.toggle('down', isDown);
     event.preventDefault();
   };

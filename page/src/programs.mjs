@@ -3,7 +3,8 @@
 import { hex } from './hex.mjs';
 import { OPCODES } from './processor.mjs';
 import {
-  CODE_END, CURES, DRIVER_END, PROGRAM_END, RANGES, ROUTINES, STANDS, START, WRITABLE,
+  CODE_END, CURES, DRIVER_END, NMI_VECTOR, PROGRAM_END, RANGES, RESET_VECTOR, ROUTINES, STANDS,
+  START, WRITABLE,
 } from './tables.mjs';
 
 /* The routines that are proved, by their addresses: each with its name, what it needs and what it
@@ -140,6 +141,30 @@ export class Program {
     const best = Math.max(...before), far = at > best ? `+${at - best}` : '';
     return `${hex(at, 4)} (${this.labels.get(best)}${far})`;
   }
+}
+
+/* Whether a program has the driver's bytes in their place. */
+export const hasDriver = (program, driver) => driver.every((byte, k) => (
+  byte === program.byte(START + k)));
+
+/* Opcodes: a store of A, a call, and the jumps. */
+export const STA = 0x8D;
+const JSR = 0x20, JMP = 0x4C, BRANCHES = 'branches', ENDS = new Set(['jmp', 'rts', 'rti', 'none']);
+
+/* Where instructions call an address: of those that are reached from the vectors, the driver's left
+ * out. */
+export function callsOf(program, to) {
+  const found = [], left = [NMI_VECTOR, RESET_VECTOR].map((at) => program.word(at));
+  const seen = new Set();
+  while (left.length > 0) {
+    const at = left.pop(), one = program.at(at);
+    if (seen.has(at) || isDriver(at)) continue;
+    seen.add(at);
+    if (one.opcode === JSR && one.operand === to) found.push(at);
+    if (one.opcode === JSR || one.opcode === JMP || one.does === BRANCHES) left.push(one.operand);
+    if (!ENDS.has(one.name)) left.push(one.next);
+  }
+  return found.sort((a, b) => a - b);
 }
 
 /* What A, X and Y hold after an instruction; `top` is what a PLA brings. */

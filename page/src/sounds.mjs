@@ -154,3 +154,32 @@ export class Speaker {
     frequency.exponentialRampToValueAtTime(to, time + length);
   }
 }
+
+/* What is heard of a board: nothing until somebody asks for it by a button. */
+export class Ears {
+  constructor(button) {
+    Object.assign(this, { button, speaker: null, isLoud: false });
+  }
+
+  /* Asks for sounds, or for none. Returns false in a browser that makes none. */
+  setLoud(isLoud) {
+    if (isLoud && globalThis.AudioContext === undefined) return false;
+    if (isLoud) this.speaker ??= new Speaker();
+    this.isLoud = isLoud;
+    this.button.setAttribute('aria-pressed', String(isLoud));
+    return true;
+  }
+
+  /* Goes on with a board, or is silent. */
+  follow(board, isHeard) {
+    this.speaker?.follow(board.latches, isHeard && this.isLoud && board.fault === '');
+  }
+
+  /* Hands on what was written since the frame before. */
+  take({ latches, time: now, fault }) {
+    const changes = latches.changes.splice(0);
+    if (!this.speaker?.isOn) return;
+    for (const { at, byte, time } of changes) this.speaker.take(at, byte, now - time);
+    if (fault !== '') this.speaker.follow(latches, false);
+  }
+}

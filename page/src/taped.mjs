@@ -1,11 +1,11 @@
-/* A board that tapes its newest runs, so that each of them can be shown stroke by stroke, or
- * as a log. Tested, not proved. */
+/* A board that tapes its runs, as long as its rows hold them, so that each of them can be shown
+ * stroke by stroke, and the newest as a log. Tested, not proved. */
 import { KIND } from './engine.mjs';
 import { hex } from './hex.mjs';
-import { KeptArcade } from './past.mjs';
+import { KeptArcade, SLOT_CYCLES } from './past.mjs';
 
-/* How many runs are taped. */
-const MOST_TAPED = 4;
+/* Of how many runs the newest bytes are kept, for a log. */
+const MOST_LOGS = 4;
 /* How many numbers the tape has for each thing that is told: its kind, where, what, and when. */
 const TOLD_NUMBERS = 4;
 
@@ -37,12 +37,12 @@ class StrokeEnds {
   }
 }
 
-/* A run: when it began, over which vector RAM, when each of its strokes was drawn, and when it was
- * done, if it is. */
+/* A run: when it began, over which vector RAM, the words that it read, when each of its strokes was
+ * drawn, and when it was done, if it is; `told` is null where its bytes aren't kept any longer. */
 class TapedRun {
   constructor(began, ram) {
-    Object.assign(this, { began, ram, done: null, ends: [], told: [], strokes: null });
-    Object.assign(this, { words: new StrokeEnds(), isTorn: false });
+    Object.assign(this, { began, ram, done: null, ends: [], told: [], words: [], strokes: null });
+    Object.assign(this, { endsOf: new StrokeEnds(), isTorn: false, parts: null });
   }
 
   /* The vector RAM as it began, and what happened since, as a log for `dvg torn`. */
@@ -81,14 +81,21 @@ export class TapedArcade extends KeptArcade {
     const { tape } = this;
     if (tape === undefined) return;
     tape.told.push(kind, address, value, cycles);
+    if (kind !== KIND.FETCHED) return;
+    tape.words.push(value);
     // The beam is there once it has drawn that vector.
-    if (kind === KIND.FETCHED && tape.words.of(value)) this.drawsTo = tape;
+    if (tape.endsOf.of(value)) this.drawsTo = tape;
   }
 
   beginTape(cycles) {
-    if (this.taped.length === MOST_TAPED) this.taped.shift();
-    this.taped.push(new TapedRun(cycles, this.ram.slice()));
+    const { taped, past } = this, old = taped.at(-MOST_LOGS);
+    if (old !== undefined) old.told = null;
+    while (taped[0]?.began < past.from * SLOT_CYCLES) taped.shift();
+    taped.push(new TapedRun(cycles, this.ram.slice()));
   }
+
+  /* The run that is open at a time, or was the last one before that; null of none. */
+  runAt(cycles) { return this.taped.findLast(({ began }) => began <= cycles) ?? null; }
 
   passTime(time) {
     super.passTime(time);

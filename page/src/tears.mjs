@@ -96,7 +96,9 @@ export function tearText({ wrong, word: { event, read } }, picture) {
 
 /* How much of a torn picture is red. */
 export function redText(wrong, { strokes: { length } }) {
-  return length === 0 ? 'The run drew no stroke.' : `${wrong.length} of ${length} strokes, red and `
+  if (length === 0) return 'The run drew no stroke.';
+  if (wrong.length === 0) return 'What it read in between draws the same: no stroke is red.';
+  return `${wrong.length} of ${length} strokes, red and `
     + 'dashed, aren\'t of the frame that the run began with.';
 }
 

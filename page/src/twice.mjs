@@ -3,13 +3,15 @@
  * Tested, not proved. */
 import { HERTZ } from './arcade.mjs';
 import { judgeProgram } from './checker.mjs';
+import { Pads } from './gamepads.mjs';
 import {
   bytesVerdict, everyVerdict, picturesVerdict, resetsVerdict, showVerdict,
 } from './judged.mjs';
 import { byId, setText } from './parts.mjs';
-import { GAME_KEYS } from './player.mjs';
+import { GAME_KEYS, NO_SOUND, keysText, listenToTouch, showButtonsOf } from './player.mjs';
 import { Program, isDriver } from './programs.mjs';
 import { Screen } from './screen.mjs';
+import { Ears } from './sounds.mjs';
 import { Strip } from './strip.mjs';
 import { TapedArcade, beamOf, comesToBe } from './taped.mjs';
 import { tearCode, tearOfGame } from './tears.mjs';
@@ -35,6 +37,10 @@ const STARTLED = 900;
 const MOST_BEHIND = 100, SAID_EVERY = 200, DRAWN_EVERY = 4;
 /* How long a picture glows that is the last one, in seconds of the board. */
 const AFTERGLOW = 0.5;
+/* How many pixels a tube has across at most while it runs, if the screen has more. */
+const MOST_ACROSS = 640;
+/* What a finger on a picture presses: a game that reads no more than that has no buttons. */
+const BY_FINGER = ['fire', 'thrust'];
 /* What a game's beginning presses: the button, from which second on, and until which. */
 const BEGUN_BY = [['coin', 0.4, 0.6], ['start1', 1, 1.3]];
 /* The game of the first view. */
@@ -68,9 +74,10 @@ class Side {
 export class Twice {
   constructor(engine, games) {
     Object.assign(this, { engine, games, game: null, isShown: false, phase: '', colors: null });
-    Object.assign(this, { turn: 0, saidAt: 0, stoppedAt: 0, tear: null, frames: [] });
+    Object.assign(this, { turn: 0, saidAt: 0, stoppedAt: 0, tear: null, frames: [], asked: -1 });
+    Object.assign(this, { pads: new Pads(), ears: new Ears(byId('both-sound')), fit: () => {} });
     [this.whole, this.cut] = this.sides = [new Side('whole'), new Side('cut')];
-    this.frame = this.frame.bind(this);
+    for (const name of ['frame', 'watchPads', 'takeHand']) this[name] = this[name].bind(this);
   }
 
   /* --- Beginning --- */
@@ -100,7 +107,7 @@ export class Twice {
     for (const side of this.sides) side.insert(this.engine, this.game);
     this.ask();
     Object.assign(this, { until: 0, cutAt: Infinity, cutsItself: true, isPlayed: false });
-    this.isFlown = false;
+    Object.assign(this, { isFlown: false, asked: -1 });
     byId('both-game').value = this.name;
     this.setPhase('both');
     byId('first-play').hidden = !isStill;
@@ -126,9 +133,9 @@ export class Twice {
     }
     const { slow, ignored } = this.whole.arcade;
     const pace = slow === 1 ? 'at its own pace' : `${slow} times as slow`;
-    const comes = ignored ? 'is ignored' : 'starts it anew';
-    setText(byId('asked-text'), `Both boards: ${this.name}, the beam ${pace}, a strobe that comes `
-      + `while it draws ${comes}. Change this`);
+    const comes = ignored ? 'ignored' : 'a new start';
+    setText(byId('asked-text'), `Both: ${this.name}, beam ${pace}, strobes amid a picture `
+      + `${comes}. Change this`);
   }
 
   /* The first tear at once, as a still. */
@@ -148,6 +155,44 @@ export class Twice {
   setShown(isShown) {
     this.isShown = isShown;
     if (isShown) this.go();
+    if (this.whole.arcade !== null) this.hush();
+  }
+
+  /* What is heard is the board whose wire is whole, while both run, and are in view. */
+  hush() {
+    this.ears.follow(this.whole.arcade, this.isShown && this.isRunning && !document.hidden);
+  }
+
+  setLoud(isLoud) {
+    if (!this.ears.setLoud(isLoud)) this.say(NO_SOUND);
+    this.hush();
+  }
+
+  /* While both have stopped, a gamepad goes on by one of its buttons. */
+  watchPads() {
+    if (!this.isShown || this.phase !== 'stopped' || !this.pads.isThere) return;
+    this.pads.take((name, isDown) => this.takeHand(name, isDown, false));
+    requestAnimationFrame(this.watchPads);
+  }
+
+  /* Tubes that are large have fewer pixels while they run. */
+  fitTubes() {
+    const most = this.isRunning ? String(MOST_ACROSS) : '';
+    const canvases = this.sides.map(({ screen }) => screen.canvas);
+    if (canvases.every(({ dataset }) => dataset.most === most)) return;
+    for (const { dataset } of canvases) dataset.most = most;
+    this.fit();
+  }
+
+  /* The buttons that the game reads, for fingers; none where a finger on a picture will do. */
+  showPads() {
+    const { asked } = this.whole.arcade;
+    if (asked.size === this.asked) return;
+    this.asked = asked.size;
+    const isAll = [...asked].every((name) => BY_FINGER.includes(name));
+    showButtonsOf(document.querySelectorAll('[data-both]'), isAll ? new Set() : asked, 'both');
+    byId('twice').classList.toggle('has-pads', !isAll);
+    setText(byId('both-keys'), keysText(asked));
   }
 
   setPhase(phase) {
@@ -159,6 +204,9 @@ export class Twice {
     setText(byId('cut-wire'), wireCut ? 'Mend it' : 'Cut it now');
     setText(byId('fly'), phase === 'on' ? 'Stop at a tear' : 'Fly it yourself');
     this.tellTexts();
+    this.fitTubes();
+    this.hush();
+    if (phase === 'stopped') this.watchPads();
   }
 
   go() {
@@ -173,11 +221,14 @@ export class Twice {
     if (!this.isAnimated) return;
     const now = performance.now(), passed = Math.min(MOST_BEHIND, now - this.last);
     this.last = now;
+    this.pads.take((name, isDown) => this.press(name, isDown));
     this.pass(passed / 1000);
+    this.ears.take(this.whole.arcade);
     if (this.isRunning) this.drawLive();
     if (now - this.saidAt > SAID_EVERY) {
       this.saidAt = now;
       this.tellTexts();
+      this.showPads();
     }
     this.frames.push(performance.now() - now);
     if (this.frames.length > 600) this.frames.shift();
@@ -216,7 +267,9 @@ export class Twice {
   }
 
   /* The run of a torn picture; none of one that was long ago. */
-  tapeOf(torn) { return this.cut.arcade.taped.find(({ began }) => began === torn.began); }
+  tapeOf(torn) {
+    return this.cut.arcade.taped.find(({ began, told }) => began === torn.began && told !== null);
+  }
 
   partsOf(torn) { return tearOfGame(this.engine, torn, { bytes: this.game.shapes }); }
 
@@ -483,6 +536,7 @@ export function listenToTwice(twice) {
   });
   for (const id of ['both-beam', 'both-ignored']) on(id, 'change', () => twice.beginAnew());
   on('both-anew', 'click', () => twice.beginAnew());
+  on('both-sound', 'click', () => twice.setLoud(!twice.ears.isLoud));
   listenToFlight(twice);
   addEventListener('blur', () => twice.releaseAll());
 }
@@ -511,4 +565,9 @@ function listenToFlight(twice) {
       canvas.addEventListener(type, () => twice.takeHand('fire', false, false));
     }
   }
+  for (const button of document.querySelectorAll('[data-both]')) {
+    listenToTouch(button, (isDown) => twice.takeHand(button.dataset.both, isDown, false));
+  }
+  addEventListener('gamepadconnected', twice.watchPads);
+  document.addEventListener('visibilitychange', () => twice.hush());
 }

@@ -1,11 +1,13 @@
 // A Chromium without a screen, asked by its own protocol over a pipe: what tests/page needs of it.
 import { spawn } from 'node:child_process';
-import { mkdtempSync, rmSync, writeFileSync } from 'node:fs';
+import { mkdtempSync, readFileSync, rmSync, writeFileSync } from 'node:fs';
 import { tmpdir } from 'node:os';
 import { join } from 'node:path';
 
 // Where it is kept what ran of the page's script, if anywhere: tests/coverage reads it.
 const COVERAGE = process.env.NODE_V8_COVERAGE;
+
+const PAGE = new URL('../../../page/dvg.html', import.meta.url).pathname;
 
 // How long something is waited for, in milliseconds: long, as a machine may be busy.
 const WAIT = 120000;
@@ -115,7 +117,20 @@ const KEYS = {
 };
 
 function faultOf({ exception, text }) {
-  return exception?.description ?? text;
+  return inModules(exception?.description ?? text);
+}
+
+// A page's modules begin with a remark that names each; from there on its lines are those of its
+// file, but for the first ones.
+const MODULE = /^const \$\w+ = \(\(\) => \{ \/\/ (\w+\.mjs)$/;
+
+// A text with the places of dvg.html as those of its modules.
+export function inModules(text, html = readFileSync(PAGE, 'utf8')) {
+  const lines = html.split('\n');
+  return text.replace(/\S*dvg\.html[^:\s]*:([0-9]+)/g, (whole, line) => {
+    const begin = lines.findLastIndex((one, k) => k < line && MODULE.test(one));
+    return begin < 0 ? whole : `${MODULE.exec(lines[begin])[1]}:${line - begin - 1}`;
+  });
 }
 
 class Tab {
@@ -181,7 +196,7 @@ class Tab {
     await this.send('Page.navigate', { url: 'about:blank' });
     await this.send('Page.navigate', { url });
     const ready = await this.until('document.body?.dataset.ready === "yes"');
-    if (!ready) throw new Error(`${url} is not ready`);
+    if (!ready) throw new Error(`${url} is not ready: ${this.faults.splice(0).join('; ')}`);
   }
 
   text(id) {

@@ -16,7 +16,7 @@ import { Arcade, HERTZ } from '../../../page/src/arcade.mjs';
 import { VERDICT, judgeProgram } from '../../../page/src/checker.mjs';
 import { Engine, KIND } from '../../../page/src/engine.mjs';
 import {
-  builtGame, gameOf, isOfGame, lengthFault, romAlone, unzipped,
+  builtGame, gameOf, isOfGame, lengthFault, romAlone, unzipped, vectorsFault,
 } from '../../../page/src/eproms.mjs';
 import { heldBy } from '../../../page/src/gamepads.mjs';
 import { hex } from '../../../page/src/hex.mjs';
@@ -72,6 +72,12 @@ const bytesOf = (text) => new Uint8Array(Buffer.from(text, 'base64'));
 function driverOfPage() {
   const lines = linesOfListing(readFileSync(`${top}page/driver.listing`, 'utf8'));
   return Uint8Array.from(lines.flatMap(({ bytes }) => bytes));
+}
+
+// Where the driver's labels are.
+function routinesOfPage() {
+  const lines = linesOfListing(readFileSync(`${top}page/driver.listing`, 'utf8'));
+  return new Map(lines.map(({ at, source }) => [source.split(':')[0], at]));
 }
 
 // The games that are built in, by the folders of examples/.
@@ -1130,7 +1136,7 @@ function playOnStage() {
   globalThis.document = { getElementById: (id) => parts[id] };
   parts.beam.value = '1';
   const games = [...GAMES.entries()].map(([name, game]) => ({ name, ...game }));
-  return { play: new Play(engine, games, driverOfPage()), parts, games };
+  return { play: new Play(engine, games, driverOfPage(), routinesOfPage()), parts, games };
 }
 
 // A verdict: its word, a slash and its text.
@@ -1335,6 +1341,17 @@ function testFaultsOfFiles(whole, rom, sockets) {
     ['a text', [text, whole], ''], ['a larger game', [deluxe, larger], ''],
     ['a dump beside a game', [whole, dump], 'h1.dump has 4,096 bytes: a socket has 2,048.']]) {
     expect(`${what}: its length`, wanted, lengthFault(files));
+  }
+  const random = { name: 'game.program', bytes: Uint8Array.from({ length: 6144 }, (_, k) => k * 7) };
+  const other = { ...random, name: 'ram' }, leads = [...other.bytes.slice(-6, -2)].map((byte) => (
+    byte.toString(16).toUpperCase().padStart(2, '0')));
+  const nowhere = ({ name }) => `${name} has the length of a program, but its vectors lead nowhere: `
+    + `by its last six bytes an NMI goes to ${leads[1]}${leads[0]}, and a reset to ${leads[3]}`
+    + `${leads[2]}. Both must be of its own code.`;
+  for (const [what, files, wanted] of [['a game', [whole, rom], ''], ['no game', [random],
+    nowhere(random)], ['beside a ROM', [other, rom], nowhere(other)],
+    ['alone', [other], ''], ['beside NP3', [other, np3], nowhere(other)]]) {
+    expect(`${what}: its vectors`, wanted, vectorsFault(files));
   }
   const alone = ({ name }) => `${name} is a vector ROM, the shapes of a game. Its program isn't `
     + 'among them: drop both at once.';

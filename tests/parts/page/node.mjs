@@ -693,8 +693,14 @@ function testFiles() {
   const is = (wanted, bytes) => expect(`a file is a ${wanted}`, wanted,
     kindOf(Uint8Array.from(bytes)));
   const text = (words) => Buffer.from(words);
-  is('dump', new Uint8Array(4096));
-  is('dump', new Uint8Array(6144));
+  for (const length of [4096, 6144]) {
+    const dump = new Uint8Array(length);
+    is('unsure', dump);
+    expect('its name tells a dump', 'dump', kindOf(dump, 'ram.dump'));
+    is('dump', dump.fill(0xE0, 1, 2));
+  }
+  expect('words', 'words', kindOf(readFileSync(`${top}examples/stars.words`), 'stars.words'));
+  is('list', readFileSync(`${top}examples/stars.list`));
   is('rom', new Uint8Array(2048).fill(0xD0));
   is('unknown', new Uint8Array(100));
   for (const name of ['attract', 'digits', 'rocks', 'rom_shapes', 'score', 'ship']) is('draft',
