@@ -12,8 +12,9 @@ BUILT are the constants that the page needs beside its modules, as JavaScript. T
     <!--SCRIPT HASH-->            nothing else in
 
 Each module is a function of its own, which gives the names that others import: so a private name is
-private. Its code has the line of its file, counted from the remark that names it. A name that is
-imported and not exported, and an id that a module asks for and the page hasn't, are refused.
+private. Its remarks are left out, but not their lines: so its code has the line of its file, counted
+from the remark that names it. A name that is imported and not exported, and an id that a module
+asks for and the page hasn't, are refused.
 """
 import base64
 import hashlib
@@ -26,6 +27,8 @@ IMPORT = re.compile(r"^import (\{[^}]*\}) from '\./([a-z]+)\.mjs';\n", re.M)
 GIVEN = re.compile(r'^export (?:async )?(?:const|class|function) (\w+)(.*)', re.M | re.A)
 # More constants of one line.
 MORE = re.compile(r', ([A-Z][A-Z0-9_]+) = ')
+# A remark that has its lines for itself.
+REMARK = re.compile(r'^ *(?:/\*.*?\*/|//[^\n]*)$', re.M | re.S)
 BUILT = re.compile(r'^const (\w+) = ', re.M)
 
 
@@ -62,10 +65,14 @@ def collect(name, built, texts, wanted):
     texts[name] = text
 
 
+def lines_of(remark):
+    return '\n' * remark[0].count('\n')
+
+
 def module_of(name, text, wanted):
     """A module as a function: its imports, its code, and what it gives."""
     imports = ''.join(f'const {names} = ${other};\n' for names, other in IMPORT.findall(text))
-    code = re.sub(r'^export ', '', IMPORT.sub('', text), flags=re.M).strip()
+    code = re.sub(r'^export ', '', REMARK.sub(lines_of, IMPORT.sub('', text)), flags=re.M).rstrip()
     given = f'return {{ {", ".join(sorted(wanted))} }};\n' if wanted else ''
     return f'const ${name} = (() => {{ // {name}.mjs\n{imports}{code}\n{given}}})();'
 

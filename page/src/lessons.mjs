@@ -125,6 +125,9 @@ export const LESSONS = [
 /* A state that names a lesson and brings no trace is that lesson's, but for what it says itself. */
 export function withLesson(state) {
   const number = Number(state.lesson) - 1;
+  if (state.lesson !== undefined && !(number in LESSONS)) {
+    throw new Error(`there is no lesson ${state.lesson}`);
+  }
   if (state.trace !== undefined || LESSONS[number] === undefined) return state;
   return { ...stateOfLesson(number), ...state };
 }

@@ -4,6 +4,31 @@ import { base64Of, bytesOfBase64 } from './hex.mjs';
 
 const MOST_CHARACTERS = 4000000;
 
+/* Where the project's files are, as an address that ends in a slash. Without one, no link out is
+ * shown. */
+const PROJECT = '';
+const PAPERS = { 'The project': '', 'What is proved': 'docs/THEOREM.md',
+  'A game of your own': 'docs/GAME.md' };
+
+/* The links out, each with its text and its address. */
+export function linksOut(project = PROJECT) {
+  if (project === '') return [];
+  return Object.entries(PAPERS).map(([text, file]) => ({ text, address: project + file }));
+}
+
+/* The fields that a state may have. */
+const FIELDS = ['a', 'at', 'b', 'beam', 'both', 'count', 'embed', 'first', 'game', 'how', 'labels',
+  'lesson', 'mistake', 'plain', 'program', 'rom', 'scale', 'seed', 'shapes', 'strobes', 'trace',
+  'wire'];
+
+/* A state as it is taken; an error where a field of it is none, or a value that there isn't. */
+function checked(state) {
+  const strange = Object.keys(state).find((name) => !FIELDS.includes(name) && name !== 'opening');
+  if (strange !== undefined) throw new Error(`“${strange.slice(0, 40)}” is nothing that it knows`);
+  if (!/^[1248]?$/.test(state.beam ?? '')) throw new Error(`no beam is ${state.beam} times as slow`);
+  return state;
+}
+
 /* The fragment of a state, as it stands. */
 export function plainFragment(state) {
   const fields = Object.entries(state).filter(([, value]) => value !== '' && value !== undefined);
@@ -20,10 +45,10 @@ export async function fragmentOf(state) {
 /* The state of a fragment; an error where it is none. */
 export async function stateOf(fragment) {
   const text = fragment.replace(/^#/, '');
-  if (!text.startsWith('z=')) return Object.fromEntries(new URLSearchParams(text));
+  if (!text.startsWith('z=')) return checked(Object.fromEntries(new URLSearchParams(text)));
   const plain = await unpacked(text.slice(2).replace(/-/g, '+').replace(/_/g, '/'))
     .catch(() => { throw new Error('it was cut off, or changed'); });
-  return Object.fromEntries(new URLSearchParams(new TextDecoder().decode(plain)));
+  return checked(Object.fromEntries(new URLSearchParams(new TextDecoder().decode(plain))));
 }
 
 async function unpacked(text) {

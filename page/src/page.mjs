@@ -9,7 +9,7 @@ import { Drawer, marksOf, momentOf } from './moments.mjs';
 import { generatorOf, insideRows } from './inside.mjs';
 import { besideOf, strokesOfLines, tearCode, tearOf, tearText } from './tears.mjs';
 import { Chance, Proportions, reelOf } from './chance.mjs';
-import { fragmentOf, plainFragment, stateOf } from './links.mjs';
+import { fragmentOf, linksOut, plainFragment, stateOf } from './links.mjs';
 import { Code } from './code.mjs';
 import { Drops, whyNotShown } from './drops.mjs';
 import { LESSONS, stateOfLesson, withLesson } from './lessons.mjs';
@@ -880,6 +880,12 @@ function save(name, text) {
   setTimeout(() => URL.revokeObjectURL(link.href), 1000);
 }
 
+/* Saves a text, and says so. */
+function saveText(name, text) {
+  save(name, text);
+  tell(`${name}: ${grouped(text.length)} bytes, where the browser saves files.`);
+}
+
 /* How what stands in an editor leaves: the name of the file, and the command that makes it. */
 const SAVES = {
   'a sketch': ['frames.sketch', null],
@@ -1097,8 +1103,8 @@ function listenToButtons() {
   on('anew', beginAgain);
   on('compare', compare);
   on('link', () => makeLink().catch((fault) => tell(`No link: ${fault.message}`, true)));
-  on('save-trace', () => save('trace.txt', traceOf(board)));
-  on('save-log', () => save('log.txt', board.log()));
+  on('save-trace', () => saveText('trace.txt', traceOf(board)));
+  on('save-log', () => saveText('log.txt', board.log()));
   on('zoom-in', () => { rows.zoom(2, at, shown.length); show(); });
   on('zoom-out', () => { rows.zoom(0.5, at, shown.length); show(); });
   on('zoom-all', () => { rows.showAll(shown.length); show(); });
@@ -1180,6 +1186,16 @@ function makePlay() {
   makeTwice(games, driver);
 }
 
+/* The links out of the page, if the project has an address; and what "accepted" takes, beside both
+ * places that say it. */
+function makeLinks() {
+  const links = linksOut(), line = byId('project-links');
+  line.hidden = links.length === 0;
+  line.append(...links.map(({ text, address }) => Object.assign(document.createElement('a'),
+    { textContent: text, href: address })));
+  byId('every-premises').append(byId('premises').lastElementChild.cloneNode(true));
+}
+
 function makeTwice(games, driver) {
   twice = Object.assign(new Twice(engine, Object.assign(games, { driver })), { colors });
   byId('both-game').append(...games.map(({ name }) => new Option(name)));
@@ -1235,6 +1251,7 @@ async function begin() {
   code = new Code(engine, LISTING);
   drops = new Drops(engine, drawer, DROP_STAGE);
   makePlay();
+  makeLinks();
   addEventListener('hashchange', loadFragment);
   // These links change no fragment where there is none.
   for (const link of document.querySelectorAll('a[href="#"]')) {

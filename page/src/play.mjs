@@ -16,7 +16,7 @@ import { Player, listenToPlayer } from './player.mjs';
 import { Program, STA, callsOf, hasDriver, isDriver } from './programs.mjs';
 import { ROW, SIGN } from './signs.mjs';
 import { Strip } from './strip.mjs';
-import { TapedArcade } from './taped.mjs';
+import { BEGINNING, TapedArcade, tearingBeam } from './taped.mjs';
 import { redText, tearCode, tearOfGame } from './tears.mjs';
 import { areaName, counted } from './words.mjs';
 
@@ -28,8 +28,6 @@ const ROWS_EVERY = 4;
 const ANSWER_AFTER = 3;
 /* After how many seconds of a game its picture is a still. */
 const STILL_SECONDS = 3;
-/* What a beginning presses by itself: the button, from which second on, and until which. */
-const OPENING = [['coin', 0.4, 0.6], ['start1', 1, 1.3]];
 /* The mistake that a game may have: stores into the vector RAM in place of the calls of a routine
  * of the driver, into these places in turn. */
 const MISTAKEN = 'dvg_put', STORES_AT = [0x4004, 0x4404];
@@ -81,7 +79,7 @@ export class Play extends Player {
   openBuilt(number, isOpening = false) {
     const { name, ...game } = this.games[number];
     this.begin(name, game, '', number);
-    if (isOpening) this.script = [...OPENING];
+    if (isOpening) this.script = [...BEGINNING];
   }
 
   /* The game that files are of: its name, and what is said of it; or the fault, why there is none
@@ -252,8 +250,18 @@ export class Play extends Player {
     if (counts.early > 0) return 'bytes came early, but no picture is torn.';
     if (counts.ignored > 0) return 'strobes that came before HALT were ignored.';
     if (!wireCut) return 'each run came to HALT before the next strobe, as the wire is whole.';
-    return 'it reads "done" at once, and yet each run came to HALT before the next strobe. With a '
-      + 'slower beam they may not.';
+    return `it reads "done" at once, and yet each run came to HALT before the next strobe. ${
+      this.beamText}`;
+  }
+
+  /* With which beam the game tears; it is looked for once. */
+  get beamText() {
+    const { game, engine } = this;
+    if (game.beam === undefined) game.beam = tearingBeam(engine, game);
+    if (game.beam === null) {
+      return 'By no beam here does this game tear: its pictures are done before the next one comes.';
+    }
+    return `It tears with a beam ${game.beam} times as slow, and strobes ignored while it draws.`;
   }
 
   /* --- The last seconds --- */

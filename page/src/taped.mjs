@@ -1,5 +1,6 @@
 /* A board that tapes its runs, as long as its rows hold them, so that each of them can be shown
  * stroke by stroke, and the newest as a log. Tested, not proved. */
+import { HERTZ } from './arcade.mjs';
 import { KIND } from './engine.mjs';
 import { hex } from './hex.mjs';
 import { KeptArcade, SLOT_CYCLES } from './past.mjs';
@@ -113,22 +114,43 @@ export class TapedArcade extends KeptArcade {
   }
 }
 
+/* What the beginning of a game presses by itself: the button, from which second on, and until which.
+ */
+export const BEGINNING = [['coin', 0.4, 0.6], ['start1', 1, 1.3]];
+
+export function pressBeginning(arcade) {
+  for (const [button, from, to] of BEGINNING) {
+    arcade.press(button, arcade.time >= from && arcade.time < to);
+  }
+}
+
 /* How long a board is looked at with each beam, in seconds, and in which parts. */
 const TRIED_FOR = 4, TRIED_PART = 0.05;
 const BEAMS = [1, 2, 4, 8];
 
-/* Which beam makes a game tear once its wire is cut, while the watchdog leaves it alone as long as
- * the wire is whole: how many times as slow it is. Null where none of these does. */
+/* Which beam makes a game tear once its wire is cut and strobes amid a run are ignored, while the
+ * watchdog leaves it alone as long as the wire is whole: how many times as slow it is. Null where
+ * none of these does. */
+export function tearingBeam(engine, { program, shapes }) {
+  return beamOf((slow, wireCut, isSo) => {
+    const arcade = new TapedArcade(engine, program, shapes);
+    Object.assign(arcade, { slow, wireCut, ignored: true });
+    const came = comesToBe(arcade, isSo);
+    arcade.free();
+    return came;
+  });
+}
+
 export function beamOf(tryBoard) {
   return BEAMS.find((slow) => tryBoard(slow, true, ({ torn }) => torn > 0)
     && !tryBoard(slow, false, ({ resets }) => resets > 0)) ?? null;
 }
 
 /* Runs a board until its counts are so, or a while: whether they came to be. */
-export function comesToBe(arcade, press, isSo, hertz) {
+function comesToBe(arcade, isSo) {
   while (arcade.time < TRIED_FOR) {
-    press(arcade);
-    arcade.run(Math.round(TRIED_PART * hertz));
+    pressBeginning(arcade);
+    arcade.run(Math.round(TRIED_PART * HERTZ));
     if (isSo(arcade.counts)) return true;
   }
   return false;

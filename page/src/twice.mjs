@@ -13,7 +13,7 @@ import { Program, isDriver } from './programs.mjs';
 import { Screen } from './screen.mjs';
 import { Ears } from './sounds.mjs';
 import { Strip } from './strip.mjs';
-import { TapedArcade, beamOf, comesToBe } from './taped.mjs';
+import { TapedArcade, pressBeginning, tearingBeam } from './taped.mjs';
 import { tearCode, tearOfGame } from './tears.mjs';
 
 /* After how many seconds the wire is cut by itself. */
@@ -41,8 +41,6 @@ const AFTERGLOW = 0.5;
 const MOST_ACROSS = 640;
 /* What a finger on a picture presses: a game that reads no more than that has no buttons. */
 const BY_FINGER = ['fire', 'thrust'];
-/* What a game's beginning presses: the button, from which second on, and until which. */
-const BEGUN_BY = [['coin', 0.4, 0.6], ['start1', 1, 1.3]];
 /* The game of the first view. */
 export const FIRST_TWICE = 'Cave';
 
@@ -86,7 +84,7 @@ export class Twice {
    * watchdog of the whole side alone. */
   begin(name, game, { beam, said = '', isStill = false } = {}) {
     Object.assign(this, { name, game, program: new Program(game.program, game.labels) });
-    const found = beam ?? this.findBeam();
+    const found = beam ?? tearingBeam(this.engine, game);
     byId('both-beam').value = String(found ?? 1);
     byId('both-ignored').checked = true;
     const isNone = found === null ? ' With none of these beams does it tear within 4 seconds: its '
@@ -113,16 +111,6 @@ export class Twice {
     byId('first-play').hidden = !isStill;
     if (isStill) this.runToTear();
     else this.go();
-  }
-
-  findBeam() {
-    return beamOf((slow, wireCut, isSo) => {
-      const arcade = new TapedArcade(this.engine, this.game.program, this.game.shapes);
-      Object.assign(arcade, { slow, wireCut, ignored: true });
-      const came = comesToBe(arcade, pressBegun, isSo, HERTZ);
-      arcade.free();
-      return came;
-    });
   }
 
   /* Takes what is asked of both boards: all but the wire. */
@@ -252,7 +240,7 @@ export class Twice {
   /* Both boards come to the same time, but for the rest of an instruction. */
   runTo(cycles) {
     for (const { arcade } of this.sides) {
-      if (!this.isPlayed) pressBegun(arcade);
+      if (!this.isPlayed) pressBeginning(arcade);
       arcade.run(cycles - arcade.processor.cycles);
     }
   }
@@ -505,12 +493,6 @@ function leapOf({ picture: { strokes }, parts: { wanted, wrong } }) {
   const leaps = strokes.map((stroke, k) => (!others.has(stroke) || wanted[k] === undefined ? 0
     : Math.max(...[0, 1].map((way) => Math.abs(stroke[way] - wanted[k][way])))));
   return Math.max(...leaps) / STEPS_OF_UNIT;
-}
-
-function pressBegun(arcade) {
-  for (const [button, from, to] of BEGUN_BY) {
-    arcade.press(button, arcade.time >= from && arcade.time < to);
-  }
 }
 
 /* Buttons, keys and fingers of both boards. */

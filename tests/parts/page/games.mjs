@@ -22,19 +22,22 @@ import { heldBy } from '../../../page/src/gamepads.mjs';
 import { hex } from '../../../page/src/hex.mjs';
 import { fragmentOf, plainFragment, stateOf } from '../../../page/src/links.mjs';
 import { withoutOutlines } from '../../../page/src/outlines.mjs';
-import { Play } from '../../../page/src/play.mjs';
+import { Play, withMistake } from '../../../page/src/play.mjs';
 import { KeptArcade, MOST_SLOTS, SLOT_CYCLES } from '../../../page/src/past.mjs';
 import { OPCODES, Processor } from '../../../page/src/processor.mjs';
 import { Program, labelsOf } from '../../../page/src/programs.mjs';
 import { Screen } from '../../../page/src/screen.mjs';
 import { ROW, SIGN, areaOf } from '../../../page/src/signs.mjs';
-import { noCounts, picturesVerdict, resetsVerdict } from '../../../page/src/judged.mjs';
+import {
+  everyVerdict, noCounts, outcomeOf, picturesVerdict, resetsVerdict,
+} from '../../../page/src/judged.mjs';
 import { Latches, SOUND, Speaker } from '../../../page/src/sounds.mjs';
 import { Strip } from '../../../page/src/strip.mjs';
-import { TapedArcade, beamOf, comesToBe } from '../../../page/src/taped.mjs';
+import { TapedArcade, beamOf, pressBeginning, tearingBeam } from '../../../page/src/taped.mjs';
 import { tearOfGame } from '../../../page/src/tears.mjs';
 import { linesOfListing } from '../../../page/src/twin.mjs';
 import { packedCave, packedGames } from '../../../page/games.mjs';
+import { inModules } from './chromium.mjs';
 import { brightOf, isDrawn } from './pixels.mjs';
 import { Audio, Image, partsOf, runPage, scriptOf } from './stage.mjs';
 
@@ -837,6 +840,15 @@ function testBoard() {
     expect(`the switch ${name}`, [0xFF, 0x7F], [down, still.read(at)]);
   }
   expect('A15 isn\'t decoded', still.read(0x7FFD), still.read(0xFFFD));
+  still.write(0xC005, 0x5A);
+  expect('nor is it where it is written', 0x5A, still.read(0x4005));
+  const strobed = [0x2FFF, 0x3000, 0x31FF, 0xB1FF, 0x3200].map((at) => {
+    const { runs } = still.counts;
+    still.write(at, 0);
+    return still.counts.runs - runs;
+  });
+  expect('the strobe has 512 places', [0, 1, 1, 1, 0], strobed);
+  expect('which buttons were read', ['fire', 'left', 'coin'], [...still.asked]);
 }
 
 // An NMI comes each 6,144 cycles, but not while the self-test switch is closed.
@@ -1041,6 +1053,25 @@ function pageOf(folder, title) {
   return html;
 }
 
+// A page has the code of modules as it is, without remarks, in the lines of their files: so a fault
+// that it reports is told by the line of a file.
+function expectModules(script, names) {
+  for (const name of names) {
+    const lines = readFileSync(`${top}page/src/${name}.mjs`, 'utf8').split('\n');
+    const all = script.split('\n');
+    let differ = 0, code = 0;
+    for (const [k, line] of all.entries()) {
+      const [, where] = /^([a-z]+\.mjs):([0-9]+)$/.exec(inModules(`dvg.html:${k + 1}`, script)) ?? [];
+      if (where !== `${name}.mjs` || !/^ *[a-z].*[;{]$/.test(line)) continue;
+      const number = Number(/[0-9]+$/.exec(inModules(`dvg.html:${k + 1}`, script)));
+      if (/^const \{.*\} = \$/.test(line) || line.startsWith('return { ')) continue;
+      code++;
+      if (lines[number - 1].replace(/^export /, '') !== line) differ++;
+    }
+    expect(`${name} is that of the page`, [0, true], [differ, code > 50]);
+  }
+}
+
 // The page of a game alone holds its bytes, and modules as they are; its policy lets in its own
 // script and style. It draws what the board draws, and takes keys and touches.
 async function testGamePage() {
@@ -1056,11 +1087,7 @@ async function testGamePage() {
       'base64'));
     expect('its bytes', true,
       script.includes(`const GAME = {"program": "${program64}", "shapes": "${shapes64}"};`));
-    for (const name of ['processor', 'arcade', 'screen']) {
-      const text = readFileSync(`${top}page/src/${name}.mjs`, 'utf8').split(/^import .*\n/m).at(-1);
-      expect(`${name} is that of the page`, true,
-        script.includes(text.replace(/^export /gm, '').trim()));
-    }
+    expectModules(script, ['processor', 'arcade', 'screen']);
     await playPage(folder, html);
   }
 }
@@ -1126,7 +1153,7 @@ async function playPage(folder, html) {
 
 // What a link may ask of a board, by its fields, and what that is on the board.
 const ASKED = [[{}, [false, 1, false]], [{ wire: 'cut' }, [true, 1, false]],
-  [{ beam: '4' }, [false, 4, false]], [{ beam: '3' }, [false, 1, false]],
+  [{ beam: '4' }, [false, 4, false]],
   [{ wire: 'cut', beam: '8', strobes: 'ignored' }, [true, 8, true]]];
 
 // The games of the page without a browser: its parts, and the games that are built in.
@@ -1211,7 +1238,7 @@ const ANSWERS = [
   [{ game: 'asteroid_game', wire: 'cut', beam: '2' },
     /^It goes on: some runs are abandoned, the first of them run [0-9]+, as a strobe /],
   [{ game: 'bat', wire: 'cut', beam: '2' },
-    /^It goes on: it reads "done" at once, and yet each run came to HALT before the next strobe\./],
+    /^It goes on: it reads "done" at once, and yet each run .* By no beam here does this game tear/],
   [{ game: 'asteroid_game', beam: '2' },
     /^It goes on: each run came to HALT before the next strobe, as the wire is whole\.$/],
   [{ game: 'test_rom', wire: 'cut' }, /^It goes dark: each strobe /],
@@ -1248,6 +1275,80 @@ function testAnswers() {
   expect('the answer takes a while', 'You said: it tears. Watch it for 3 seconds.', play.whatText);
 }
 
+// At each moment of the rows the tube shows the run that is open then, as far as its strokes have
+// been drawn: as many as have an end before it.
+function testMoments() {
+  globalThis.ImageData = Image;
+  const { play, parts } = playOnStage();
+  Object.assign(parts.tube, { width: 400, height: 400 });
+  play.colors = { areas: [], glows: [] };
+  play.openState({ game: 'test_rom', wire: 'cut', beam: '4', strobes: 'ignored' });
+  play.run(2);
+  const { past, taped } = play.arcade, images = new Set();
+  let amid = 0;
+  for (let slot = past.length; slot > 0; slot -= 149) {
+    play.goTo(slot);
+    const cycles = (past.from + slot) * SLOT_CYCLES;
+    const run = taped.findLast(({ began }) => began <= cycles);
+    const drawn = run === undefined ? 0 : run.ends.filter((end) => end <= cycles).length;
+    expect(`the strokes at slot ${slot}`, drawn, parts.tube.dataset.strokes);
+    if (drawn > 0 && drawn < run.ends.length) amid++;
+    images.add(createHash('sha256').update(parts.tube.image.data).digest('hex'));
+  }
+  expect('moments amid pictures', true, amid > 20);
+  expect('pictures', true, images.size > 20);
+}
+
+// A store of the game's own is kept apart from those of the driver, and told beside a tear; with the
+// wire whole it is the cause.
+function testOwnStore() {
+  const { program: bytes, shapes } = caveOfPage(), arcade = new KeptArcade(engine, bytes, shapes);
+  const { past, generator } = arcade;
+  arcade.run(HERTZ);
+  while (!arcade.running || generator.wants().address % 512 < 60) arcade.run(1);
+  const before = 2 * (generator.wants().address - 4), after = before + 16;
+  arcade.at = 0x6C77;
+  for (const place of [before, after]) {
+    arcade.write(0xC000 + place, arcade.memory[0x4000 + place] ^ 1);
+  }
+  while (arcade.running) arcade.run(1);
+  expect('which instruction stored', [0x6C77, after], [past.own.by, past.own.place]);
+  expect('it tore the picture', 0x6C77, past.torn?.byte.by);
+  arcade.free();
+  const { play, parts } = playOnStage(), torn = { own: { by: 0x6C77, at: HERTZ }, byte: { by: 0x6969 } };
+  play.openState({ game: 'bat' });
+  expect('it is the cause', true, /by 6C77.*: that store is the cause\.$/.test(play.ownText(torn)));
+  parts['game-wire'].setAttribute('aria-pressed', 'true');
+  play.changeBoard();
+  expect('with the wire cut it may not be', true, /, at 1\.0000 s\.$/.test(play.ownText(torn)));
+  expect('none is told where there is none', '', play.ownText({ ...torn, own: null }));
+}
+
+// The mistake of a game is where it calls, not where a table has the same bytes.
+function testMistake() {
+  const { program: bytes } = GAMES.get('bat'), changed = bytes.slice(), routines = routinesOfPage();
+  const to = routines.get('dvg_put'), call = [0x20, to & 0xFF, to >> 8], at = 0x1700;
+  changed.set(call, at);
+  const made = withMistake(new Program(changed), routines);
+  expect('a table stays', call, [...made.slice(at, at + 3)]);
+  const places = [...made.keys()].filter((k) => made[k] === 0x8D && changed[k] === 0x20);
+  expect('three calls became stores', 3, places.length);
+  expect('each was one', [true, true, true], places.map((k) => (
+    call.every((byte, n) => changed[k + n] === byte))));
+}
+
+// What is accepted isn't, where a part of the game is missing.
+function testEvery() {
+  const good = { verdict: VERDICT.GOOD, lines: ['a line'] };
+  expect('all is there', 'Accepted', everyVerdict(good, { hasShapes: true, missing: '' }).word);
+  const lacks = everyVerdict(good, { hasShapes: false, missing: 'H2' });
+  expect('something is missing', ['Not sure', 'early'], [lacks.word, lacks.color]);
+  expect('that is said', true, lacks.text.startsWith(': the vector ROM and H2 of this game is '));
+  expect('a watchdog comes first', ['reset', 'tears', 'none', 'dark', 'on'],
+    [{ resets: 1 }, { torn: 1, resets: 1 }, {}, { left: 2, pictures: 1 }, { pictures: 2 }].map(
+      (counts) => outcomeOf({ ...noCounts(), ...counts })));
+}
+
 // A link to a game holds it and what is asked of its board: one that is built in by its name, one
 // that was dropped with its bytes and labels.
 async function testGameLinks() {
@@ -1258,7 +1359,7 @@ async function testGameLinks() {
     const { wireCut, slow, ignored } = play.arcade;
     expect(`the board of ${fragment}`, wanted, [wireCut, slow, ignored]);
     expect(`the game of ${fragment}`, games[1].program, play.game.program);
-    if (asked.beam !== '3') expect('the same link', fragment, plainFragment(play.state));
+    expect('the same link', fragment, plainFragment(play.state));
   }
   play.openState({ game: 'bat', mistake: '1' });
   expect('with its mistake', 1, Number(parts.every.dataset.verdict));
@@ -1432,7 +1533,7 @@ function testTaped() {
       const arcade = new TapedArcade(engine, game.program, game.shapes), runs = new Map();
       Object.assign(arcade, { wireCut, ignored: true });
       while (arcade.time < 2) {
-        pressPlayed(arcade);
+        pressBeginning(arcade);
         arcade.run(4096);
         for (const run of arcade.taped) if (run.done !== null) runs.set(run.began, run);
       }
@@ -1452,12 +1553,6 @@ function testTaped() {
         [run.countAt(began), run.countAt(done)]);
       arcade.free();
     }
-  }
-}
-
-function pressPlayed(arcade) {
-  for (const [name, from, to] of [['coin', 0.4, 0.6], ['start1', 1, 1.3]]) {
-    arcade.press(name, arcade.time >= from && arcade.time < to);
   }
 }
 
@@ -1488,22 +1583,12 @@ function testCaveTears() {
 
 // The first beam with which a game tears, while the whole side isn't reset.
 function testBeams() {
-  const beams = [['asteroid_game', 8], ['bat', null], ['test_rom', 1]].map(([folder, wanted]) => {
-    const { program: bytes, shapes } = GAMES.get(folder);
-    const found = beamOf((slow, wireCut, isSo) => {
-      const arcade = new TapedArcade(engine, bytes, shapes);
-      Object.assign(arcade, { slow, wireCut, ignored: true });
-      const came = comesToBe(arcade, pressPlayed, isSo, HERTZ);
-      arcade.free();
-      return came;
-    });
-    expect(`the beam of ${folder}`, wanted, found);
-    return found;
-  });
+  for (const [folder, wanted] of [['asteroid_game', 8], ['bat', null], ['test_rom', 1]]) {
+    expect(`the beam of ${folder}`, wanted, tearingBeam(engine, GAMES.get(folder)));
+  }
   const asked = [];
   beamOf((slow, wireCut) => { asked.push([slow, wireCut]); return true; });
   expect('none that the watchdog resets', [1, 2, 4, 8], [...new Set(asked.map(([slow]) => slow))]);
-  return beams;
 }
 
 const TESTS = [
@@ -1513,7 +1598,7 @@ const TESTS = [
   testMendedBoard, testRate, testBoard, testNmi,
   testGamepads, testSoundLatches, testSounding, testSpeaker, testSoundButton, testGamePage,
   testMakePage, testGameLinks, testNothingYet, testAnswers, testGameFiles, testOutlines,
-  testTaped, testCaveTears, testBeams,
+  testMoments, testOwnStore, testMistake, testEvery, testTaped, testCaveTears, testBeams,
 ];
 for (const test of TESTS) if (named.length === 0 || named.includes(test.name)) await test();
 end();

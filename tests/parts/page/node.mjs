@@ -17,8 +17,9 @@ import { hex } from '../../../page/src/hex.mjs';
 import { playSteps, replay, stepsOf, traceOf } from '../../../page/src/traces.mjs';
 import { Chance, Proportions, Random, reelOf } from '../../../page/src/chance.mjs';
 import { Drawer, momentOf } from '../../../page/src/moments.mjs';
-import { fragmentOf, plainFragment, stateOf } from '../../../page/src/links.mjs';
+import { fragmentOf, linksOut, plainFragment, stateOf } from '../../../page/src/links.mjs';
 import { kindOf } from '../../../page/src/files.mjs';
+import { Drops, whyNotShown } from '../../../page/src/drops.mjs';
 import { Recording, boardOfDump } from '../../../page/src/recordings.mjs';
 import { logOfBus } from '../../../page/src/buses.mjs';
 import { readSketch, romOf } from '../../../page/src/sketches.mjs';
@@ -686,6 +687,18 @@ async function testLinks() {
     const broken = await stateOf(fragment).then(() => 'a state', ({ message }) => message);
     expect('a broken link is an error', 'it was cut off, or changed', broken);
   }
+  for (const [fragment, wanted] of [['#xyz', '“xyz” is nothing that it knows'],
+    ['#game=Rocks&beam=99', 'no beam is 99 times as slow'], ['#beam=8&both=Rocks', 'a state']]) {
+    const told = await stateOf(fragment).then(() => 'a state', ({ message }) => message);
+    expect(`the link ${fragment}`, wanted, told);
+  }
+  const [said] = [0, 99].map((lesson) => {
+    try { return String(withLesson({ lesson })); } catch ({ message }) { return message; }
+  });
+  expect('a lesson that there isn\'t', 'there is no lesson 0', said);
+  expect('without an address no link leads out', '[]', JSON.stringify(linksOut('')));
+  expect('with one all begin there', true, linksOut('https://example.org/').every(
+    ({ address }) => address.startsWith('https://example.org/')));
   board.free();
 }
 
@@ -720,6 +733,15 @@ function testFiles() {
   is('judged', text('reset 0.1 6C71\nwrote 001 E0 0.2 6C71\n'));
   is('driven', text('read halted\nwrote 001 E0\nsent\n'));
   is('pictures', new Uint8Array(5 * 2048));
+  for (const [bytes, wanted] of [[Buffer.alloc(0), / It is empty\.$/],
+    [new Uint8Array(6143), / It has 6,143 bytes, 1 fewer than a program\.$/],
+    [new Uint8Array(6145), / It has 6,145 bytes, 1 more than a program\.$/],
+    [new Uint8Array(6144), /^This has the 6,144 bytes of a program, or of a dump /],
+    [new Uint8Array(5000), /, so it was not opened\.$/],
+    [readFileSync(`${top}examples/stars.list`), /^$/]]) {
+    const told = whyNotShown({ name: 'a file', bytes });
+    expect(`what is told of ${bytes.length} bytes: ${told}`, true, wanted.test(told));
+  }
 }
 
 // The last two lessons tear: by a cut wire, and by one half alone.
@@ -909,6 +931,21 @@ function testBuses() {
   }
 }
 
+// A list that dvg prints, and the words that it is of, become the same frame; one that calls isn't
+// drawn; and of a log with its vector ROM the torn strokes are those of the board that it is of.
+async function testLists() {
+  const used = [], told = [];
+  const drops = new Drops(engine, new Drawer(engine), {
+    useDraft: (text) => used.push(text) > 0, tell: (name, text) => told.push(text) });
+  const open = (name) => drops.open(new File([readFileSync(`${top}examples/${name}`)], name));
+  for (const name of ['square.list', 'square.words', 'shape.list']) await open(name);
+  const [list, words] = used.map((text) => text.replace(/^#.*\n/, ''));
+  expect('a list is a frame', 'labs 512 512 0\nvctr 9 -50 -50 0\nvctr 9 100 0 10\n'
+    + 'vctr 9 0 100 10\nvctr 9 -100 0 10\nvctr 9 0 -100 10\nhalt\n', list);
+  expect('and so are its words', list, words);
+  expect('one that calls isn\'t', true, /can't be drawn alone, for jmpl 001: /.test(told.at(-1)));
+}
+
 // --- Sketches, and the tear ---
 
 // Each frame of a sketch is what `check --bound` says of its lines alone.
@@ -988,7 +1025,7 @@ const TESTS = [
   testTwin, testSchedules, testCutWire, testMended, testOneHalf, testMomentLogs,
   testJudged, testRuns, testProportions, testHalves, testLongTrace, testAdvice, testDrafts,
   testRoms,
-  testMoments, testLinks, testFiles, testRecordings, testDumps, testDriverTexts, testBuses,
+  testMoments, testLinks, testFiles, testRecordings, testDumps, testDriverTexts, testBuses, testLists,
   testSketches, testTears, testLessons, testLessonColors, testLessonPage, testCases,
   testSketchCases,
 ];

@@ -8,7 +8,8 @@ import re
 
 TOP = os.path.abspath(f"{os.path.dirname(os.path.abspath(__file__))}/../../..")
 # What page/assemble.py leaves out of a module, lines that are no code, and the script of a page.
-CUT = re.compile(r"^(import \{[^}]*\} from '[^']*';\n|export )", re.M)
+CUT = re.compile(r"^(import \{[^}]*\} from '[^']*';\n|export | *(/\*.*?\*/|//[^\n]*)\n|\n)",
+                 re.M | re.S)
 REMARK = re.compile(r"\s*(//|/\*|\*/|\* |$)")
 SCRIPT = re.compile(r'<script type="module">(.*)</script>', re.S)
 
