@@ -11,6 +11,7 @@ import { besideOf, strokesOfLines, tearCode, tearOf, tearText } from './tears.mj
 import { Chance, Proportions, reelOf } from './chance.mjs';
 import { fragmentOf, linksOut, plainFragment, stateOf } from './links.mjs';
 import { Code } from './code.mjs';
+import { controlsOf } from './controls.mjs';
 import { Drops, whyNotShown } from './drops.mjs';
 import { LESSONS, stateOfLesson, withLesson } from './lessons.mjs';
 import { TOUR_RATE, TOUR_STEPS, Tour } from './tour.mjs';
@@ -21,8 +22,7 @@ import { DraftEditor, RomEditor } from './editors.mjs';
 import { listenToFiles, listenToMemory, listenToRows, listenToSizes } from './gestures.mjs';
 import { Verdicts, compareWithPlay } from './verdicts.mjs';
 import {
-  HOW_TEXT, ONE_HALF_TEXT, counted, countsText, durationText, grouped, instructionText, leftText,
-  momentCode, momentText, pictureText, runText, wordCode, wordText,
+  counted, countsText, grouped, instructionText, leftText, momentCode, momentText, pictureText, runText, wordCode, wordText,
 } from './words.mjs';
 import { builtGame } from './eproms.mjs';
 import { Play, listenToPlay } from './play.mjs';
@@ -43,9 +43,6 @@ const FIRST = { a: FIRST_A, b: FIRST_B }, FIRST_EVENTS = 2600;
 /* What leads to the opening of the board, in the part of an address that no browser sends. */
 const OPENING_HASH = '#opening';
 const LOG_BEFORE = 12, LOG_AFTER = 4;
-/* Why what is grey is so: of a recording, and of a board with as many events as it holds. */
-const ELSEWHERE = 'This is a recording: it can be looked at, not run.';
-const FULL = '65,536 events are the most: begin anew, or run on and on.';
 /* The largest seed. */
 const MOST_SEED = 4294967295;
 /* How many frames of a sketch are drawn in a second beside its text. */
@@ -166,9 +163,15 @@ function isEndless() {
   return byId('endless').checked && !tour.running;
 }
 
-function canRun() {
-  const hasRoom = !board.full || isEndless();
-  return shown === board && editorA.offerable && editorB.offerable && hasRoom;
+/* What the buttons may do now, and why. */
+function controlsNow() {
+  return controlsOf({
+    isBoard: shown === board, isFull: board.full, isRunning: running, isEndless: isEndless(),
+    offerable: [editorA.offerable, editorB.offerable],
+    isMoving: [editorA, editorB].some(({ frames }) => frames.length > 1),
+    isNewest: at === shown.length, left: running ? toGo : countOfRun(), rate: rateNow(),
+    wireCut: board.wireCut, oneHalf: board.oneHalf, how: byId('how').value,
+  });
 }
 
 function runSome(count, until = Infinity) {
@@ -218,7 +221,7 @@ function beginNext() {
 }
 
 function setRunning(on) {
-  running = on && canRun();
+  running = on && controlsNow().canRun;
   if (running) {
     toGo = countOfRun();
     animatedAt = performance.now();
@@ -345,7 +348,7 @@ function readColors() {
 /* After something has happened or was chosen. */
 function changed() {
   rows.follow(at);
-  showButtons();
+  showControls();
   judge();
   byId('compared').textContent = '';
   show();
@@ -375,7 +378,7 @@ function showTexts(moment) {
   tellBoth(byId('moment-text'), momentText(shown, at), momentCode(shown, at));
   byId('rows').setAttribute('aria-valuemax', shown.length);
   byId('rows').setAttribute('aria-valuenow', at);
-  showRunText();
+  showControls();
   showInside(moment);
   code.show(shown, at, shown === board);
   showInstruction(moment);
@@ -387,33 +390,6 @@ function showTexts(moment) {
 function tornPicture({ picture, run: open }) {
   const later = shown.pictures.find(({ from }) => from === open?.from) ?? null;
   return tearNow(later) === null ? picture : later;
-}
-
-/* Why Run is grey, or '' where it isn't. */
-function whyNoRun() {
-  const fault = [editorA, editorB].find(({ offerable }) => !offerable);
-  if (shown !== board) return ELSEWHERE;
-  if (board.full && !isEndless()) return FULL;
-  return fault && !running ? `Frame ${fault.place.id} has a mistake (below). Mend it, then Run.`
-    : '';
-}
-
-/* What Run does, and for how long. */
-function textOfRun() {
-  const left = running ? toGo : countOfRun();
-  const count = `${grouped(left)} event${left === 1 ? '' : 's'}`;
-  if (running) {
-    return `${isEndless() ? 'On and on' : `${count} to go`}. Stop to use the grey buttons.`;
-  }
-  if (isEndless()) return 'Run: on and on, anew after each 65,536 events.';
-  return `Run: ${count}, in ${durationText(left / rateNow())}.`;
-}
-
-/* That, or why it can't run; or why it begins anew. */
-function showRunText() {
-  const why = whyNoRun() || (board.full && !running ? FULL : '');
-  setText(byId('run-text'), why || textOfRun());
-  setText(byId('how-text'), (board.oneHalf ? ONE_HALF_TEXT : '') + HOW_TEXT[byId('how').value]);
 }
 
 /* A torn picture: both frames that it is of, and the byte that came in between. With one half, what
@@ -553,37 +529,26 @@ function showTorn() {
   }));
 }
 
-function showButtons() {
-  const { wireCut } = board;
-  byId('wire').setAttribute('aria-pressed', String(wireCut));
-  byId('wire').textContent = wireCut ? 'Mend the HALT wire' : 'Cut the HALT wire';
-  byId('run').textContent = running ? 'Stop' : 'Run';
-  byId('run').disabled = !running && !canRun();
-  for (const id of ['once', 'one-picture']) {
-    byId(id).disabled = running || board.full || !canRun();
-  }
+/* Shows what the buttons do, and greys those that do nothing now. */
+function showControls() {
+  const { grey, wire, run: runName, runText: text, ...said } = controlsNow();
+  byId('wire').setAttribute('aria-pressed', String(board.wireCut));
+  setText(byId('wire'), wire);
+  setText(byId('run'), runName);
+  byId('run').disabled = grey.run;
+  for (const id of ['once', 'one-picture']) byId(id).disabled = grey.once;
   for (const id of ['moment-text', 'verdicts']) {
     byId(id).setAttribute('aria-live', running ? 'off' : 'polite');
   }
-  const ended = board.full || shown !== board;
-  byId('offerA').disabled = !editorA.offerable || ended;
-  byId('offerB').disabled = !editorB.offerable || ended;
-  for (const button of document.querySelectorAll('[data-event]')) button.disabled = ended;
-  for (const id of ['wire', 'anew', 'compare', 'half-count']) byId(id).disabled = shown !== board;
-  byId('thumb-why').textContent = whyNoRun();
-  byId('compare-why').textContent = shown === board ? '' : 'What happened elsewhere has no trace.';
-  byId('forget').hidden = running || shown !== board || at === shown.length;
-  byId('offers-text').textContent = offersText();
-}
-
-/* Why what is grey is so; or what an offer of a sketch is. */
-function offersText() {
-  const [fault] = [editorA, editorB].filter(({ offerable }) => !offerable);
-  if (shown !== board) return ELSEWHERE;
-  if (board.full) return FULL;
-  if (fault) return `Frame ${fault.place.id} has a fault, so it can't be offered.`;
-  const moving = [editorA, editorB].some(({ frames }) => frames.length > 1);
-  return moving ? 'Each offer of a sketch is of its next frame.' : '';
+  ['offerA', 'offerB'].forEach((id, k) => { byId(id).disabled = grey.offers[k]; });
+  for (const button of document.querySelectorAll('[data-event]')) button.disabled = grey.events;
+  for (const id of ['wire', 'anew', 'compare', 'half-count']) byId(id).disabled = grey.board;
+  setText(byId('thumb-why'), said.why);
+  setText(byId('compare-why'), said.compareWhy);
+  setText(byId('offers-text'), said.offersText);
+  byId('forget').hidden = !said.mayForget;
+  setText(byId('run-text'), text);
+  setText(byId('how-text'), said.howText);
 }
 
 function showFrameTime() {
@@ -1120,11 +1085,10 @@ function listenToButtons() {
   byId('plain').addEventListener('change', () => setPlain(byId('plain').checked));
   byId('half-count').addEventListener('change', beginAgain);
   for (const id of ['seed', 'how']) byId(id).addEventListener('input', () => { schedule = null; });
-  for (const id of ['count', 'speed', 'how']) byId(id).addEventListener('input', showRunText);
+  for (const id of ['count', 'speed', 'how']) byId(id).addEventListener('input', showControls);
   byId('endless').addEventListener('change', () => {
     toGo = countOfRun();
-    showButtons();
-    showRunText();
+    showControls();
   });
 }
 
@@ -1212,8 +1176,7 @@ function makeEditors() {
   const edited = (editor) => {
     editor.check(engine, editorR.rom);
     takeRomOf(editor);
-    showButtons();
-    showRunText();
+    showControls();
   };
   const known = Object.values(SCENES);
   editorA = new DraftEditor(byId('A'), 'Frame A', () => edited(editorA), known, ADVICE);

@@ -1778,6 +1778,7 @@ const STOPPED = 'document.getElementById("twice").classList.contains("stopped")'
 const bothVerdicts = () => textsOf('#twice .verdict');
 
 async function testTwice() {
+  await tab.media({ 'color-scheme': 'dark' });
   for (const [width, height] of [[400, 800], [844, 390], [1280, 800], [1920, 1080]]) {
     await tab.size(width, height, width < 900);
     await tab.open(front);
@@ -1789,6 +1790,7 @@ async function testTwice() {
     expect(`${width}: while it runs a tube has 640 pixels across at most`, true,
       await across() <= 640);
     await tab.until(STOPPED);
+    if (width === 1280) writeFileSync(`${work}/page_twice.png`, await tab.screenshot());
     expect(`${width}: at rest it has all`, true, await across() >= await tab.value(
       'document.getElementById("tube-cut").clientWidth'));
     const [whole, cut] = await bothVerdicts();

@@ -18,6 +18,7 @@ import { playSteps, replay, stepsOf, traceOf } from '../../../page/src/traces.mj
 import { Chance, Proportions, Random, reelOf } from '../../../page/src/chance.mjs';
 import { Drawer, momentOf } from '../../../page/src/moments.mjs';
 import { fragmentOf, linksOut, plainFragment, stateOf } from '../../../page/src/links.mjs';
+import { controlsOf } from '../../../page/src/controls.mjs';
 import { kindOf } from '../../../page/src/files.mjs';
 import { Drops, whyNotShown } from '../../../page/src/drops.mjs';
 import { Recording, boardOfDump } from '../../../page/src/recordings.mjs';
@@ -961,6 +962,36 @@ function testSketches() {
   expect('the playfield', SCENE_FRAMES, readSketch(engine, Object.values(SCENES)[0]).frames.length);
 }
 
+// What the buttons do in each state of the board: what is grey says why.
+function testControls() {
+  const free = { isBoard: true, isFull: false, isRunning: false, isEndless: false,
+    offerable: [true, true], isMoving: false, isNewest: true, left: 20000, rate: 960,
+    wireCut: false, oneHalf: false, how: 'chance' };
+  const told = (changes) => {
+    const { canRun, grey, why, runText, offersText, mayForget, run } = controlsOf(
+      { ...free, ...changes });
+    const greys = Object.entries(grey).filter(([, one]) => [one].flat().includes(true))
+      .map(([name]) => name);
+    return [canRun, run, greys.join(' '), why || runText, offersText, mayForget].join('|');
+  };
+  const full = '65,536 events are the most: begin anew, or run on and on.';
+  const elsewhere = 'This is a recording: it can be looked at, not run.';
+  for (const [changes, wanted] of [
+    [{}, 'true|Run||Run: 20,000 events, in about 21 seconds.||false'],
+    [{ isNewest: false, isMoving: true }, 'true|Run||Run: 20,000 events, in about 21 seconds.|'
+      + 'Each offer of a sketch is of its next frame.|true'],
+    [{ isRunning: true, left: 1 }, 'true|Stop|once|1 event to go. Stop to use the grey buttons.||'
+      + 'false'],
+    [{ isFull: true }, `false|Run|run once events offers|${full}|${full}|false`],
+    [{ isFull: true, isEndless: true }, `true|Run|once events offers|${full}|${full}|false`],
+    [{ isBoard: false, isNewest: false },
+      `false|Run|run once events board offers|${elsewhere}|${elsewhere}|false`],
+    [{ offerable: [true, false] }, 'false|Run|run once offers|Frame B has a mistake (below). Mend '
+      + 'it, then Run.|Frame B has a fault, so it can\'t be offered.|false']]) {
+    expect(`the buttons where ${JSON.stringify(changes)}`, wanted, told(changes));
+  }
+}
+
 // Of a torn picture: the strokes that aren't red are of the frame that its run began with.
 function testTears() {
   const board = runBoard(HOWS['by chance'](1), 20000, true);
@@ -1026,7 +1057,7 @@ const TESTS = [
   testJudged, testRuns, testProportions, testHalves, testLongTrace, testAdvice, testDrafts,
   testRoms,
   testMoments, testLinks, testFiles, testRecordings, testDumps, testDriverTexts, testBuses, testLists,
-  testSketches, testTears, testLessons, testLessonColors, testLessonPage, testCases,
+  testSketches, testControls, testTears, testLessons, testLessonColors, testLessonPage, testCases,
   testSketchCases,
 ];
 for (const test of TESTS) if (named.length === 0 || named.includes(test.name)) await test();
