@@ -13,8 +13,8 @@
 # `make help` prints the lines below.
 #
 #: make           makes the ROM set, build/roms, and says how many bytes are taken
-#: make proof     looks at its bytes, by rules that are proved: no run of them tears a picture; or
-#:                it says what isn't seen, or which instruction is refused, and why
+#: make proof     asks dvg game of its bytes: no run of them tears a picture; or it says what isn't
+#:                seen, or which line of the source is refused, and why
 #: make premises  looks whether the program keeps to the premises of the driver's proof
 #: make judge     the same, and runs it in the emulator without a screen, and says all that is bad:
 #:                a second of the game takes about a second of a processor
@@ -33,9 +33,6 @@
 #: make eproms    writes what is to be burned, in build/eproms; make test-rom does so for a test ROM
 #: make clean     removes build
 #:
-#: PROVE    1: proof has the prover itself prove it, which needs rt: 41 to 47 seconds of a processor
-#:          for a game of 2,900 bytes, if rt has proved the crates below on this machine, as after
-#:          ./prove dvg_closed_cells; else it proves them first, by estimate in half an hour
 #: JUDGED   how many seconds of the board's time premises, judge, film and sound run [20]: so many
 #:          that the file of buttons is played to its end, as by JUDGED ?= 42 in the makefile
 #: SECONDS  the same of emulator and torn [5]; SHOTS: when pictures are taken [1.5 2.5 3.5 4.5]
@@ -84,7 +81,8 @@ build/roms/$(MACHINE): build/$(PROGRAM).program build/rom build/prom
 # What ld65 says has a line of what to do below it.
 build/$(PROGRAM).program: build/$(PROGRAM).o build/driver.o $(CONFIG) build/options \
     $(BOARD)linked.awk
-	@ld65 -C $(CONFIG) -Ln build/$(PROGRAM).labels -m build/$(PROGRAM).map -o $@ \
+	@ld65 -C $(CONFIG) -Ln build/$(PROGRAM).labels --dbgfile build/$(PROGRAM).dbg \
+	    -m build/$(PROGRAM).map -o $@ \
 	    build/driver.o build/$(PROGRAM).o 2>build/linked || status=1; \
 	    awk -f $(BOARD)linked.awk build/linked >&2; exit $$status
 
@@ -182,7 +180,7 @@ premises: good_buttons build/roms/$(MACHINE) build/premises build/driver.proved
 	@$(premises)
 
 proof: build/$(PROGRAM).program build/rom
-	@$(BOARD)prove $(if $(PROVE),--prove) . $(PROGRAM)
+	@$(BOARD)prove $(PROGRAM)
 
 # Ends where a name of WATCH is no label.
 find_watched = for name in $(WATCH); do \

@@ -57,6 +57,53 @@ vectors() {
     }'
 }
 
+# A game, as `game` reads it: a vector ROM of returns, and a program with the driver, an RTI at
+# 7FF9, its NMI's vector 7FF9 and its reset's 6A87, and zeros. These bytes come from 6A87 on, or
+# from an address that is named before them: `game A2 FF 9A 5000: 00 B0`.
+game() {
+    local byte memory at=$((0x6A87 - 0x6000))
+    mapfile -t memory < <(repeat 2048 00$'\n'D0 &&
+        sed -n '/^code =/,$s/0x/\n/gp' repository/crates/dvg_game_words/specs/Code.antt |
+            grep -oE '^[0-9A-F]{2}\b' && repeat 5497 00)
+    for byte in 7FF9: 40 F9 7F 87 6A F9 7F 6A87: "$@"; do
+        case $byte in
+        5*:) at=$((0x${byte%:} - 0x5000)) ;;
+        *:) at=$((0x${byte%:} - 0x6000)) ;;
+        *) memory[at++]=$byte ;;
+        esac
+    done
+    # shellcheck disable=SC2059
+    printf "$(printf '\\x%s' "${memory[@]}")"
+}
+
+# The same, which goes on at 6A8D behind the call of dvg_reset; with a subroutine at 6A93; with an
+# NMI at 6AA0; with a frame that has what these bytes put.
+looped() { game A2 FF 9A 20 00 68 "$@"; }
+called() { looped 20 93 6A 4C 8D 6A "$@"; }
+interrupted() { looped 4C 8D 6A 7FFA: A0 6A 6AA0: "$@"; }
+# shellcheck disable=SC2086
+framed() { looped $begins "$@" $ends; }
+
+# The same with a jump back to 6A8D; and what is said of each of these: `say_of loops 07 '91 21'`.
+loops() { looped "$@" 4C 8D 6A; }
+# shellcheck disable=SC2086
+say_of() { for bytes in "${@:2}"; do $1 $bytes | dvg game; done; }
+
+# What begins a frame, and ends it and shows it again and again; what offers a table at 7000; and
+# what puts one of two words of lists at 7000 and 7010.
+labs='A9 00 20 79 69' begins='20 24 69 A9 00 20 79 69' ends='20 00 6A 20 09 68 4C 8D 6A'
+offers='A9 00 A2 70 20 FE 68 20 09 68 4C 8D 6A'
+listed='A4 21 C0 02 B0 09 B9 00 70 BE 10 70 20 57 69'
+
+# A jump to the last of so many branches: each leads to the one before it, and the first one to a
+# call of dvg_run and a jump to the reset. A jump to itself follows.
+branches() {
+    local last=$((0x6A94 + 2 * $1))
+    printf '4C %02X %02X 20 09 68 4C 87 6A 30 F8\n' $((last % 256)) $((last / 256))
+    repeat $(($1 - 1)) 30 FC
+    printf '4C %02X %02X\n' $(((last + 2) % 256)) $(((last + 2) / 256))
+}
+
 # The log of ten runs, each of which writes the half that it doesn't draw.
 ten_runs() {
     awk 'BEGIN {

@@ -460,7 +460,8 @@ Standard output: one of three verdicts.
   refused: and a line for each instruction that breaks a rule, with its address,
   the rule, and what to do, the causes first        status 1
   keeps to the rules, but not all that it offers and puts is seen   status 3
-With `--notes` the notes of the program follow, a line for each instruction.
+With `--notes` the notes of the program follow, a line for each instruction, and
+then each table that it offers, and each word that it puts.
 
 Faults: `game size N` for another number of bytes.
 

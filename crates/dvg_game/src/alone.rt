@@ -1,11 +1,14 @@
 //! Why an instruction isn't allowed, whatever comes after it.
 use crate::asks::{level_name, tell_bytes};
 use crate::instruction::{Instruction, Mode};
-use crate::places::{cure_of, routine, tell_place};
+use crate::places::{cure_of_any, routine, tell_place};
 use dvg_game_check::{Kind, Level, Note, Operand, Register, Slot, Test, kind_of, reached};
 use dvg_io::Text;
 use std::alloc::Allocator;
 use std::fmt::{self, Write};
+
+/// The address of `dvg_copy`.
+const COPY: u16 = 0x69C0;
 
 /// Tells why an instruction isn't one that the checker takes.
 pub(crate) fn tell_wild<A: Allocator>(
@@ -63,6 +66,22 @@ fn first_failing(i: &Instruction, place: Operand, test: Test) -> Option<u16> {
     None
 }
 
+// Returns the address that a store may reach and of which an author most wants to know, of those
+// that don't pass: one of the strobe or of the vector RAM, or else the first.
+fn worst_failing(i: &Instruction, place: Operand, test: Test) -> Option<u16> {
+    let first = first_failing(i, place, test);
+    if let Operand::AbsoluteIndexed = place {
+        for k in 0..256u16 {
+            let a = i.word.wrapping_add(k);
+            let is_worst = matches!(a, 0x3000..=0x31FF | 0x4000..=0x47FF);
+            if is_worst && !reached(Operand::Absolute, 0, a, test) {
+                return Some(a);
+            }
+        }
+    }
+    first
+}
+
 // Returns which byte an instruction reads or writes.
 fn operand_of(i: &Instruction) -> Option<Operand> {
     match kind_of(i.opcode) {
@@ -100,17 +119,23 @@ fn tell_reached<A: Allocator>(
     if !indexed {
         write!(out, "it writes {a:04X}, ")?;
         tell_place(out, a)?;
-        return write!(out, "{in_nmi}{}", cure_of(a));
+        return write!(out, "{in_nmi}{}", cure_of_any(a));
     }
     write!(out, "by its index it may reach {a:04X}, ")?;
     tell_place(out, a)?;
+    if 0x100 <= i.operand() && i.operand() < 0x200 {
+        return write!(
+            out,
+            ": the stack is written by pushes alone; where RAM is cleared, leave out page 1"
+        );
+    }
     if i.operand() < 0x400 {
         return write!(
             out,
             ": let the array stand from 0200 on, and begin at 0300 or before (.segment \"BSS\")"
         );
     }
-    write!(out, "{in_nmi}{}", cure_of(a))
+    write!(out, "{in_nmi}{}", cure_of_any(a))
 }
 
 /// Tells where a store may write that its level may not.
@@ -120,7 +145,7 @@ pub(crate) fn tell_store<A: Allocator>(
     level: Level,
 ) -> fmt::Result {
     if let Some(place) = operand_of(i) {
-        if let Some(a) = first_failing(i, place, Test::Writable(level)) {
+        if let Some(a) = worst_failing(i, place, Test::Writable(level)) {
             return tell_reached(out, i, level, a);
         }
     }
@@ -130,10 +155,10 @@ pub(crate) fn tell_store<A: Allocator>(
 /// Tells that what an instruction calls or jumps to of the driver is no routine of it.
 pub(crate) fn tell_entry<A: Allocator>(out: &mut Text<A>, i: &Instruction) -> fmt::Result {
     let to = i.operand();
-    write!(
-        out,
-        "it goes to {to:04X}, which is no routine that is proved"
-    )
+    if to == COPY {
+        return write!(out, "dvg_copy isn't proved: put its words by dvg_put");
+    }
+    write!(out, "it goes to {to:04X}, which is no routine that is proved")
 }
 
 /// Tells that the NMI calls a routine of the driver.

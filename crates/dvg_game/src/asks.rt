@@ -33,8 +33,8 @@ pub(crate) struct Way {
     pub depth: u16,
 }
 
-// Returns the first JSR to an address, if there is one.
-fn call_of(program: &Program<'_>, to: u32) -> Option<u32> {
+/// Returns the first JSR to an address, if there is one.
+pub(crate) fn call_of(program: &Program<'_>, to: u32) -> Option<u32> {
     for k in 0..PLACES {
         let at = FIRST + k;
         if let Some(step) = program.step(at) {

@@ -1,5 +1,6 @@
-//! The notes of a program, as lines.
+//! The notes of a program, and what it offers and puts, as lines.
 use crate::asks::level_name;
+use crate::bringer::{OFFER, bringer};
 use crate::instruction::Instruction;
 use crate::program::Program;
 use dvg_game_check::{FIRST, Note, PLACES, Register, Slot};
@@ -30,6 +31,9 @@ fn tell_note<A: Allocator>(out: &mut Text<A>, note: &Note) -> fmt::Result {
     let held = note.held;
     let (a, x, y) = (letter_of(held.a), letter_of(held.x), letter_of(held.y));
     write!(out, "{a}{x}{y} pushed ")?;
+    if note.slots.as_slice().is_empty() {
+        write!(out, "-")?;
+    }
     for slot in note.slots.as_slice() {
         let letter = letter_of(*slot);
         write!(out, "{letter}")?;
@@ -49,6 +53,26 @@ pub(crate) fn tell_notes<A: Allocator>(out: &mut Text<A>, program: &Program<'_>)
             write!(out, "note {at:04X}: {i}: ")?;
             tell_note(out, note)?;
         }
+    }
+    Ok(())
+}
+
+/// Tells each of these words, in a line, and the first instruction that brings it to a routine.
+pub(crate) fn tell_brought<A: Allocator>(
+    out: &mut Text<A>,
+    program: &Program<'_>,
+    ways: &[u8],
+    entry: u16,
+    words: &[u16],
+) -> fmt::Result {
+    let what = if entry == OFFER { "offered" } else { "put" };
+    for word in words {
+        let word = *word;
+        write!(out, "{what} {word:04X}")?;
+        if let Some(at) = bringer(program, ways, entry, word) {
+            write!(out, " at {at:04X}")?;
+        }
+        write!(out, "\n")?;
     }
     Ok(())
 }

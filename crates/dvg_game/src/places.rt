@@ -21,8 +21,8 @@ pub(crate) fn tell_place<A: Allocator>(out: &mut Text<A>, a: u16) -> fmt::Result
     }
 }
 
-/// Returns what to write in place of a store there, behind a colon.
-pub(crate) fn cure_of(a: u16) -> &'static str {
+// Returns what to write in place of a store to an address below 8000, behind a colon.
+fn cure_of(a: u16) -> &'static str {
     match a {
         0x100..=0x1FF => ": push it, or keep it in page 2",
         0x3200..=0x3FFF => ": an output is written by its name, as WATCHDOG, without an index",
@@ -31,8 +31,15 @@ pub(crate) fn cure_of(a: u16) -> &'static str {
              memory test, remove it"
         }
         0x4800..=0x7FFF => ": what changes stands in RAM (.segment \"BSS\")",
-        0x8000..=0xFFFF => ": write that one, by its name",
         _ => "",
+    }
+}
+
+/// Returns what to write in place of a store to any address, behind a colon.
+pub(crate) fn cure_of_any(a: u16) -> &'static str {
+    match a % 0x8000 {
+        0x3200..=0x3FFF if 0x8000 <= a => ": write that one, by its name",
+        place => cure_of(place),
     }
 }
 

@@ -7,6 +7,9 @@ const ROM: u32 = 0x6800;
 /// The address of the NMI's vector.
 pub(crate) const NMI_VECTOR: u32 = 0x7FFA;
 
+/// The address of the reset's vector.
+pub(crate) const RESET_VECTOR: u32 = 0x7FFC;
+
 /// The bytes of a program from 6800 to 7FFF, its notes, and where it starts behind TXS.
 #[derive(Clone, Copy)]
 pub(crate) struct Program<'a> {

@@ -3,11 +3,11 @@ use crate::alone::{
     tell_blank, tell_entry, tell_finish, tell_lost, tell_nmi_drives, tell_read, tell_return_depth,
     tell_return_level, tell_store, tell_wild,
 };
-use crate::asks::{tell_ask, way_behind, way_there};
+use crate::asks::{call_of, tell_ask, way_behind, way_there};
 use crate::hints::Hints;
 use crate::instruction::Instruction;
-use crate::program::Program;
-use dvg_game_check::{Broken, Note, Rule};
+use crate::program::{Program, RESET_VECTOR};
+use dvg_game_check::{Broken, Level, Note, Rule};
 use dvg_io::Text;
 use std::alloc::Allocator;
 use std::fmt::{self, Write};
@@ -63,6 +63,23 @@ fn tell_rule<A: Allocator + Copy>(
     }
 }
 
+// Tells, of a place of the reset that a JSR leads to, which one calls it.
+fn tell_called<A: Allocator>(
+    out: &mut Text<A>,
+    program: &Program<'_>,
+    at: u32,
+    now: &Note,
+) -> fmt::Result {
+    let reset = u32::from(program.word(RESET_VECTOR));
+    if at < reset || program.start <= at || !matches!(now.level, Level::Sub) {
+        return Ok(());
+    }
+    match call_of(program, reset) {
+        Some(call) => write!(out, "; the reset is called at {call:04X}: jump there"),
+        None => Ok(()),
+    }
+}
+
 /// Tells the instruction at a place, and which rule it breaks.
 pub(crate) fn tell_broken<A: Allocator + Copy>(
     out: &mut Text<A>,
@@ -73,7 +90,10 @@ pub(crate) fn tell_broken<A: Allocator + Copy>(
     let i = Instruction::new(program, broken.at);
     write!(out, "{i}: ")?;
     match (program.note(broken.at), broken.rule) {
-        (Some(now), Some(rule)) => tell_rule(out, program, hints, &i, now, rule),
+        (Some(now), Some(rule)) => {
+            tell_rule(out, program, hints, &i, now, rule)?;
+            tell_called(out, program, broken.at, now)
+        }
         _ => write!(out, "it breaks a rule"),
     }
 }

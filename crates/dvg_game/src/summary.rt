@@ -1,7 +1,7 @@
 //! What is told of a program that isn't refused.
 use crate::program::{NMI_VECTOR, Program};
 use crate::search::Search;
-use dvg_game_check::{FIRST, PLACES};
+use dvg_game_check::{FIRST, Kind, PLACES};
 use dvg_io::Text;
 use std::alloc::{AllocError, Allocator};
 use std::fmt::{self, Write};
@@ -29,9 +29,13 @@ pub(crate) fn count<A: Allocator + Copy>(
         fuel: 0,
     };
     let mut called = Search::new(alloc)?;
+    let mut last = None;
     for k in 0..PLACES {
         if let Some(step) = program.step(FIRST + k) {
             counts.instructions = counts.instructions.wrapping_add(1);
+            if matches!(step.kind, Kind::Finish) {
+                last = program.note(FIRST + k);
+            }
             if let Some(sub) = step.calls {
                 if !called.is_marked(sub) {
                     counts.subroutines = counts.subroutines.wrapping_add(1);
@@ -45,7 +49,11 @@ pub(crate) fn count<A: Allocator + Copy>(
     }
     if let Some(nmi) = program.note(u32::from(program.word(NMI_VECTOR))) {
         counts.stack = counts.stack.wrapping_add(u32::from(nmi.room));
-        counts.fuel = u32::from(nmi.fuel);
+        let left = match last {
+            Some(note) => note.fuel,
+            None => 0,
+        };
+        counts.fuel = u32::from(nmi.fuel.saturating_sub(left)).wrapping_add(1);
     }
     Ok(counts)
 }

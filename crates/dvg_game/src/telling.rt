@@ -4,8 +4,9 @@ ghost use Rattle.dvg_game_check.specs.Why.{AreBroken};
 ghost use Rattle.dvg_game.specs.Telling.{AreToldOf, IsLineOf, TellBroken, addresses};
 ghost use Rattle.dvg_game.specs.Telling.{IsToldAs};
 
+use crate::bringer::{OFFER, PUT};
 use crate::hints::Hints;
-use crate::notes::tell_notes;
+use crate::notes::{tell_brought, tell_notes};
 use crate::order::causes_first;
 use crate::program::Program;
 use crate::reasons::tell_broken;
@@ -254,6 +255,9 @@ pub(crate) fn tell<A: Allocator + Copy>(
     if with_notes {
         let program = Program::new(rom, judged.notes.as_slice());
         done(tell_notes(&mut out, &program))?;
+        let ways = judged.ways.as_slice();
+        done(tell_brought(&mut out, &program, ways, OFFER, judged.tables.as_slice()))?;
+        done(tell_brought(&mut out, &program, ways, PUT, judged.words.as_slice()))?;
     }
     Ok(Told {
         verdict: judged.verdict,

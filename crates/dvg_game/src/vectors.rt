@@ -1,13 +1,15 @@
 //! What is told of the reset and of the vectors.
+use crate::alone::{tell_store, tell_wild};
 use crate::asks::level_name;
 use crate::instruction::Instruction;
 use crate::program::{NMI_VECTOR, Program};
-use dvg_game_check::{FIRST, Kind, Level, PLACES};
+use dvg_game_check::{FIRST, Kind, Level, PLACES, Test, reached};
 use dvg_io::Text;
 use std::alloc::Allocator;
 use std::fmt::{self, Write};
 
-/// The most instructions of the NMI, the most bytes that it may push, and the program.
+/// The most instructions of the NMI before its RTI, the most bytes that it may push, and those that
+/// the program may.
 const MOST_FUEL: u16 = 800;
 
 const MOST_ROOM_OF_NMI: u16 = 29;
@@ -31,19 +33,27 @@ pub(crate) fn tell_boot<A: Allocator>(
         if is_code(mirror) {
             write!(out, ": let its vector be {mirror:04X}")?;
         }
-        return write!(out, "\n");
+        return Ok(());
     }
     let i = Instruction::new(program, at);
     write!(out, "{i}: ")?;
-    let finishes = matches!(program.kind(at), Kind::Finish);
+    match program.kind(at) {
+        Kind::Wild => return tell_wild(out, &i, false),
+        Kind::Stores(place) if !reached(place, i.low, i.word, Test::Writable(Level::Main)) => {
+            return tell_store(out, &i, Level::Main);
+        }
+        _ => {}
+    }
+    let is_nmi = matches!(program.kind(at), Kind::Finish | Kind::Push | Kind::PushFlags);
     write!(
         out,
-        "a reset begins with LDX #$FF, TXS, in 32 instructions; before it come loads and stores alone: "
+        "a reset begins with LDX #$FF, TXS, in 32 instructions; before it come loads and stores \
+         alone: "
     )?;
-    if finishes {
-        return write!(out, "VECTORS has .word nmi, reset, irq, in this order\n");
+    if is_nmi {
+        return write!(out, "VECTORS has .word nmi, reset, irq, in this order");
     }
-    write!(out, "let this follow it\n")
+    write!(out, "let this follow it")
 }
 
 // Tells what is wrong with the note of the NMI's first instruction.
@@ -59,9 +69,10 @@ fn tell_nmi<A: Allocator>(out: &mut Text<A>, program: &Program<'_>) -> fmt::Resu
         );
     }
     if MOST_FUEL < note.fuel {
+        let most = MOST_FUEL + 1;
         return write!(
             out,
-            "the vectors: the NMI may loop, or does more than {MOST_FUEL} instructions\n"
+            "the vectors: the NMI may loop, or does more than {most} instructions\n"
         );
     }
     let room = note.room;

@@ -1,6 +1,6 @@
 """Faults of authors, planted in examples/bat: of each what it is, the old text of game.s, the new
-one, and a word of the line that is wanted. Where that is None, board/prove accepts it: it breaks
-what the checker doesn't look at, which is what is put and offered, and reads of flag and RAM."""
+one, words of a line of `make proof`, and its status, if that isn't 1. Reads of the flag and of the
+vector RAM are accepted."""
 
 SAVED = 'pha\n        txa\n        pha\n        tya\n        pha\n'
 GIVEN_BACK = 'pla\n        tay\n        pla\n        tax\n        pla\n'
@@ -24,13 +24,15 @@ def before(old, text):
     return old, f'{text}\n{old}'
 
 
+ACCEPTED = 'no run of these bytes tears a picture'
+
 FAULTS = [
     ('a store into the vector RAM', *beyond('sta $4002'), '4002, the vector RAM'),
     ('a store into word zero, by an index', *beyond('sta $3FF8,x'), 'by its index it may reach'),
     ('an indexed store that may run over',
      *beyond('sta beats,x'), 'by its index it may reach 0010'),
     ('the strobe by the game', *beyond('sta $3000'), '3000, the strobe'),
-    ('a wait for the flag by the game', *beyond('bit $2002'), None),
+    ('a wait for the flag by the game', *beyond('bit $2002'), ACCEPTED, 0),
     ('dvg_phase is set later',
      PICTURE, PICTURE + '        sta dvg_phase\n', 'dvg_labs comes before'),
     ('a store through a pointer', *beyond('sta (text),y'), 'pointer'),
@@ -50,7 +52,7 @@ FAULTS = [
     ('an NMI that jumps into the program', *in_nmi('inc beats\n        jmp picture'),
      'the NMI leads there, too'),
     ('an array in the zero page, in the program', PICTURE, PICTURE + '        sta $2E,x\n',
-     'sta $2E,x: it may store a byte of 10 to 20, after which dvg_labs comes before'),
+     'dvg_labs comes before dvg_reset: the store at game.s line 48 (picture)'),
     ('an NMI that draws', *in_nmi('jsr draw\n        inc beats'), 'the NMI calls a subroutine'),
     ('an NMI that ends with RTS', 'irq:    rti', 'irq:    rts', 'the NMI ends with RTI'),
     ('a PHA too many', 'move_bat:\n', 'move_bat:\n        pha\n', '1 byte more on the stack'),
@@ -72,11 +74,14 @@ FAULTS = [
     ('an empty frame',
      DRAW, OPENS + 'jsr dvg_close\n        jsr dvg_open', 'begin it with dvg_labs'),
     ('a word that is no shape', DRAW, OPENS
-     + 'draw_at bat_x, bat_y, bat\n        lda #$34\n        ldx #$12\n        jsr dvg_put', None),
+     + 'draw_at bat_x, bat_y, bat\n        lda #$34\n        ldx #$12\n        jsr dvg_put',
+     'it puts 1234', 3),
     ('a shape by an index that is not looked at', DRAW, OPENS
-     + 'draw_at bat_x, bat_y, bat\n        ldx letters_high,y\n        jsr dvg_put', None),
+     + 'draw_at bat_x, bat_y, bat\n        ldx letters_high,y\n        jsr dvg_put',
+     "what it puts isn't seen", 3),
     ('an offer of what is no table', DRAW,
-     'draw:   lda #<title\n        ldx #>title\n        jsr dvg_offer\n        jsr dvg_open', None),
+     'draw:   lda #<title\n        ldx #>title\n        jsr dvg_offer\n        jsr dvg_open',
+     'where no table stands', 3),
     ('a call amid the driver', 'jsr dvg_redraw', 'jsr dvg_redraw + 2', 'no routine that is proved'),
     ('a subroutine that runs on into the NMI', '        jmp dvg_close\n\nnmi',
      '        jsr dvg_close\n\nnmi', 'which is nmi, not sub'),
@@ -84,7 +89,7 @@ FAULTS = [
      MOVES, MOVES.replace('jsr', 'jmp'), '(picture) one for a JSR'),
     ('JMP and JSR to one subroutine', MOVES,
      ' bit IN_FIRE\n bpl calls\n jmp move_bat\ncalls:\n' + MOVES,
-     'it goes on at 6B87 (move_bat), which is sub, not main: it is called at 6B2C (calls)'),
+     '(calls): jsr move_bat: it goes on at game.s line 122 (move_bat), which is'),
     ('JMP for JSR of the driver', '        jsr dvg_redraw\n', '        jmp dvg_redraw\n',
      'is this a JMP for a JSR'),
     ('a loop without its JMP', '        jmp picture\n', '', 'is an RTS or JMP missing before it'),
@@ -95,13 +100,14 @@ FAULTS = [
     ('a BRK', *beyond('brk'), 'where an IRQ does'),
     ('TXS amid a subroutine', *beyond('txs'), 'S is set at a reset alone'),
     ('a call into an unknown list', DRAW, OPENS
-     + 'draw_at bat_x, bat_y, bat\n        lda #$34\n        ldx #$E2\n        jsr dvg_put', None),
-    ('bytes by dvg_copy', DRAW, OPENS + 'jsr dvg_copy', 'no routine that is proved'),
+     + 'draw_at bat_x, bat_y, bat\n        lda #$34\n        ldx #$E2\n        jsr dvg_put',
+     'it puts E234', 3),
+    ('bytes by dvg_copy', DRAW, OPENS + 'jsr dvg_copy', "isn't proved: put its words by dvg_put"),
     ('a return from the program', '        jmp picture\n', '        rts\n', 'from level main'),
     ('a read of the strobe', *beyond('lda $3000'), 'it may read 3000'),
     ('a read by an index that may reach the strobe', *beyond('lda $2F80,x'), 'it may read 3000'),
     ('a read of the strobe by its mirror', *beyond('lda $B1FF'), 'it may read B1FF'),
-    ('a read of the vector RAM', *beyond('lda $4001'), None),
+    ('a read of the vector RAM', *beyond('lda $4001'), ACCEPTED, 0),
     ('a store into a mirror', *beyond('stx $8010'), 'the board takes for 0010'),
     ('a store where no output is', *beyond('sta $3800'), 'asteroids.inc names'),
     ('a store of an output by an index',
@@ -111,7 +117,7 @@ FAULTS = [
     ("a shift of one of the driver's bytes", *beyond('asl $11'), "driver's byte 11"),
     ('the strobe before TXS', STACK, '        sta $3000\n' + STACK, '3000, the strobe'),
     ('a small stack', STACK, '        ldx #$03\n        txs\n', 'S is set at a reset alone'),
-    ('a push before TXS', STACK, '        pha\n' + STACK, 'no room'),
+    ('a push before TXS', STACK, '        pha\n' + STACK, 'a reset begins with LDX #$FF, TXS'),
     ('a call before TXS', STACK, '        jsr serve\n' + STACK, 'before it come loads and stores'),
     ('a call by a mirror of the ROM', *beyond('jsr $E943'), 'no instruction of the game'),
     ('an NMI that jumps to the reset', *in_nmi('jmp reset'), 'the NMI jumps to the reset'),
@@ -120,7 +126,7 @@ FAULTS = [
     ('an NMI that pulls what it did not push', *in_nmi('pla\n        inc beats'), 'not pushed'),
     ('an NMI of 802 instructions',
      *in_nmi('.repeat 800\n        nop\n.endrepeat\n        inc beats'),
-     'more than 800'),
+     'more than 801'),
     ('an NMI that pushes 30 bytes',
      *in_nmi('.repeat 30\n        php\n.endrepeat\n.repeat 30\n        plp\n.endrepeat\n'
              '        inc beats'), 'may push 30'),

@@ -8,11 +8,14 @@ mod alone {
 //! Why an instruction isn't allowed, whatever comes after it.
 use crate::asks::{level_name, tell_bytes};
 use crate::instruction::{Instruction, Mode};
-use crate::places::{cure_of, routine, tell_place};
+use crate::places::{cure_of_any, routine, tell_place};
 use dvg_game_check::{Kind, Level, Note, Operand, Register, Slot, Test, kind_of, reached};
 use dvg_io::Text;
 use std::alloc::Allocator;
 use std::fmt::{self, Write};
+
+/// The address of `dvg_copy`.
+const COPY: u16 = 0x69C0;
 
 /// Tells why an instruction isn't one that the checker takes.
 pub(crate) fn tell_wild<A: Allocator>(
@@ -70,6 +73,22 @@ fn first_failing(i: &Instruction, place: Operand, test: Test) -> Option<u16> {
     None
 }
 
+// Returns the address that a store may reach and of which an author most wants to know, of those
+// that don't pass: one of the strobe or of the vector RAM, or else the first.
+fn worst_failing(i: &Instruction, place: Operand, test: Test) -> Option<u16> {
+    let first = first_failing(i, place, test);
+    if let Operand::AbsoluteIndexed = place {
+        for k in 0..256u16 {
+            let a = i.word.wrapping_add(k);
+            let is_worst = matches!(a, 0x3000..=0x31FF | 0x4000..=0x47FF);
+            if is_worst && !reached(Operand::Absolute, 0, a, test) {
+                return Some(a);
+            }
+        }
+    }
+    first
+}
+
 // Returns which byte an instruction reads or writes.
 fn operand_of(i: &Instruction) -> Option<Operand> {
     match kind_of(i.opcode) {
@@ -107,17 +126,23 @@ fn tell_reached<A: Allocator>(
     if !indexed {
         write!(out, "it writes {a:04X}, ")?;
         tell_place(out, a)?;
-        return write!(out, "{in_nmi}{}", cure_of(a));
+        return write!(out, "{in_nmi}{}", cure_of_any(a));
     }
     write!(out, "by its index it may reach {a:04X}, ")?;
     tell_place(out, a)?;
+    if 0x100 <= i.operand() && i.operand() < 0x200 {
+        return write!(
+            out,
+            ": the stack is written by pushes alone; where RAM is cleared, leave out page 1"
+        );
+    }
     if i.operand() < 0x400 {
         return write!(
             out,
             ": let the array stand from 0200 on, and begin at 0300 or before (.segment \"BSS\")"
         );
     }
-    write!(out, "{in_nmi}{}", cure_of(a))
+    write!(out, "{in_nmi}{}", cure_of_any(a))
 }
 
 /// Tells where a store may write that its level may not.
@@ -127,7 +152,7 @@ pub(crate) fn tell_store<A: Allocator>(
     level: Level,
 ) -> fmt::Result {
     if let Some(place) = operand_of(i) {
-        if let Some(a) = first_failing(i, place, Test::Writable(level)) {
+        if let Some(a) = worst_failing(i, place, Test::Writable(level)) {
             return tell_reached(out, i, level, a);
         }
     }
@@ -137,10 +162,10 @@ pub(crate) fn tell_store<A: Allocator>(
 /// Tells that what an instruction calls or jumps to of the driver is no routine of it.
 pub(crate) fn tell_entry<A: Allocator>(out: &mut Text<A>, i: &Instruction) -> fmt::Result {
     let to = i.operand();
-    write!(
-        out,
-        "it goes to {to:04X}, which is no routine that is proved"
-    )
+    if to == COPY {
+        return write!(out, "dvg_copy isn't proved: put its words by dvg_put");
+    }
+    write!(out, "it goes to {to:04X}, which is no routine that is proved")
 }
 
 /// Tells that the NMI calls a routine of the driver.
@@ -250,8 +275,8 @@ pub(crate) struct Way {
     pub depth: u16,
 }
 
-// Returns the first JSR to an address, if there is one.
-fn call_of(program: &Program<'_>, to: u32) -> Option<u32> {
+/// Returns the first JSR to an address, if there is one.
+pub(crate) fn call_of(program: &Program<'_>, to: u32) -> Option<u32> {
     for k in 0..PLACES {
         let at = FIRST + k;
         if let Some(step) = program.step(at) {
@@ -1082,8 +1107,9 @@ impl fmt::Display for Instruction {
 }
 }
 mod notes {
-//! The notes of a program, as lines.
+//! The notes of a program, and what it offers and puts, as lines.
 use crate::asks::level_name;
+use crate::bringer::{OFFER, bringer};
 use crate::instruction::Instruction;
 use crate::program::Program;
 use dvg_game_check::{FIRST, Note, PLACES, Register, Slot};
@@ -1114,6 +1140,9 @@ fn tell_note<A: Allocator>(out: &mut Text<A>, note: &Note) -> fmt::Result {
     let held = note.held;
     let (a, x, y) = (letter_of(held.a), letter_of(held.x), letter_of(held.y));
     write!(out, "{a}{x}{y} pushed ")?;
+    if note.slots.as_slice().is_empty() {
+        write!(out, "-")?;
+    }
     for slot in note.slots.as_slice() {
         let letter = letter_of(*slot);
         write!(out, "{letter}")?;
@@ -1136,38 +1165,77 @@ pub(crate) fn tell_notes<A: Allocator>(out: &mut Text<A>, program: &Program<'_>)
     }
     Ok(())
 }
+
+/// Tells each of these words, in a line, and the first instruction that brings it to a routine.
+pub(crate) fn tell_brought<A: Allocator>(
+    out: &mut Text<A>,
+    program: &Program<'_>,
+    ways: &[u8],
+    entry: u16,
+    words: &[u16],
+) -> fmt::Result {
+    let what = if entry == OFFER { "offered" } else { "put" };
+    for word in words {
+        let word = *word;
+        write!(out, "{what} {word:04X}")?;
+        if let Some(at) = bringer(program, ways, entry, word) {
+            write!(out, " at {at:04X}")?;
+        }
+        write!(out, "\n")?;
+    }
+    Ok(())
+}
 }
 mod order {
 //! The places that are refused, the causes first.
 use std::prelude::*;
 
+use crate::instruction::Instruction;
 use crate::program::Program;
-use dvg_game_check::{Ask, Broken, Level, Rule};
+use dvg_game_check::{Ask, Broken, Kind, Level, Rule};
 use std::alloc::{AllocError, Allocator};
 
-// Whether another instruction is mostly the cause of this refusal.
-fn follows(program: &Program<'_>, broken: Broken) -> bool {
+// Whether an instruction may lead back: in a loop there is one that does.
+fn leads_back(program: &Program<'_>, at: u32) -> bool {
+    let i = Instruction::new(program, at);
+    matches!(program.kind(at), Kind::Branch | Kind::Jump) && u32::from(i.operand()) <= at
+}
+
+// Whether another instruction is mostly the cause of this refusal; `has_cause`: one is known.
+fn follows(program: &Program<'_>, broken: Broken, has_cause: bool) -> bool {
     match broken.rule {
         Some(Rule::Asleep | Rule::Blank) => true,
-        Some(Rule::Next(Ask::Fuel | Ask::Awake) | Rule::Target(Ask::Fuel | Ask::Awake)) => true,
+        Some(Rule::Next(Ask::Awake) | Rule::Target(Ask::Awake)) => true,
+        Some(Rule::Next(Ask::Fuel) | Rule::Target(Ask::Fuel)) => !leads_back(program, broken.at),
         Some(Rule::Next(Ask::Room) | Rule::Target(Ask::Room)) => match program.note(broken.at) {
-            Some(now) => !matches!(now.level, Level::Sub),
+            Some(now) => has_cause || !matches!(now.level, Level::Sub),
             None => true,
         },
         _ => false,
     }
 }
 
-/// Returns the same places, those first that are mostly a cause.
+// Whether one of these is a cause by itself.
+fn any_cause(program: &Program<'_>, all: &[Broken]) -> bool {
+    for broken in all {
+        if !follows(program, *broken, true) {
+            return true;
+        }
+    }
+    false
+}
+
+/// Returns the same places, the likeliest causes first.
 pub(crate) fn causes_first<A: Allocator + Copy>(
     alloc: A,
     program: &Program<'_>,
     all: &[Broken],
 ) -> Result<Vec<Broken, A>, AllocError> {
+    let has_cause = any_cause(program, all);
     let mut causes = Vec::new(alloc);
     let mut others: Vec<Broken, A> = Vec::new(alloc);
     for broken in all {
-        if follows(program, *broken) {
+        if follows(program, *broken, has_cause) {
             others.push(*broken)?;
         } else {
             causes.push(*broken)?;
@@ -1201,8 +1269,8 @@ pub(crate) fn tell_place<A: Allocator>(out: &mut Text<A>, a: u16) -> fmt::Result
     }
 }
 
-/// Returns what to write in place of a store there, behind a colon.
-pub(crate) fn cure_of(a: u16) -> &'static str {
+// Returns what to write in place of a store to an address below 8000, behind a colon.
+fn cure_of(a: u16) -> &'static str {
     match a {
         0x100..=0x1FF => ": push it, or keep it in page 2",
         0x3200..=0x3FFF => ": an output is written by its name, as WATCHDOG, without an index",
@@ -1211,8 +1279,15 @@ pub(crate) fn cure_of(a: u16) -> &'static str {
              memory test, remove it"
         }
         0x4800..=0x7FFF => ": what changes stands in RAM (.segment \"BSS\")",
-        0x8000..=0xFFFF => ": write that one, by its name",
         _ => "",
+    }
+}
+
+/// Returns what to write in place of a store to any address, behind a colon.
+pub(crate) fn cure_of_any(a: u16) -> &'static str {
+    match a % 0x8000 {
+        0x3200..=0x3FFF if 0x8000 <= a => ": write that one, by its name",
+        place => cure_of(place),
     }
 }
 
@@ -1251,6 +1326,9 @@ const ROM: u32 = 0x6800;
 
 /// The address of the NMI's vector.
 pub(crate) const NMI_VECTOR: u32 = 0x7FFA;
+
+/// The address of the reset's vector.
+pub(crate) const RESET_VECTOR: u32 = 0x7FFC;
 
 /// The bytes of a program from 6800 to 7FFF, its notes, and where it starts behind TXS.
 #[derive(Clone, Copy)]
@@ -1322,11 +1400,11 @@ use crate::alone::{
     tell_blank, tell_entry, tell_finish, tell_lost, tell_nmi_drives, tell_read, tell_return_depth,
     tell_return_level, tell_store, tell_wild,
 };
-use crate::asks::{tell_ask, way_behind, way_there};
+use crate::asks::{call_of, tell_ask, way_behind, way_there};
 use crate::hints::Hints;
 use crate::instruction::Instruction;
-use crate::program::Program;
-use dvg_game_check::{Broken, Note, Rule};
+use crate::program::{Program, RESET_VECTOR};
+use dvg_game_check::{Broken, Level, Note, Rule};
 use dvg_io::Text;
 use std::alloc::Allocator;
 use std::fmt::{self, Write};
@@ -1382,6 +1460,23 @@ fn tell_rule<A: Allocator + Copy>(
     }
 }
 
+// Tells, of a place of the reset that a JSR leads to, which one calls it.
+fn tell_called<A: Allocator>(
+    out: &mut Text<A>,
+    program: &Program<'_>,
+    at: u32,
+    now: &Note,
+) -> fmt::Result {
+    let reset = u32::from(program.word(RESET_VECTOR));
+    if at < reset || program.start <= at || !matches!(now.level, Level::Sub) {
+        return Ok(());
+    }
+    match call_of(program, reset) {
+        Some(call) => write!(out, "; the reset is called at {call:04X}: jump there"),
+        None => Ok(()),
+    }
+}
+
 /// Tells the instruction at a place, and which rule it breaks.
 pub(crate) fn tell_broken<A: Allocator + Copy>(
     out: &mut Text<A>,
@@ -1392,7 +1487,10 @@ pub(crate) fn tell_broken<A: Allocator + Copy>(
     let i = Instruction::new(program, broken.at);
     write!(out, "{i}: ")?;
     match (program.note(broken.at), broken.rule) {
-        (Some(now), Some(rule)) => tell_rule(out, program, hints, &i, now, rule),
+        (Some(now), Some(rule)) => {
+            tell_rule(out, program, hints, &i, now, rule)?;
+            tell_called(out, program, broken.at, now)
+        }
         _ => write!(out, "it breaks a rule"),
     }
 }
@@ -1482,7 +1580,7 @@ mod summary {
 //! What is told of a program that isn't refused.
 use crate::program::{NMI_VECTOR, Program};
 use crate::search::Search;
-use dvg_game_check::{FIRST, PLACES};
+use dvg_game_check::{FIRST, Kind, PLACES};
 use dvg_io::Text;
 use std::alloc::{AllocError, Allocator};
 use std::fmt::{self, Write};
@@ -1510,9 +1608,13 @@ pub(crate) fn count<A: Allocator + Copy>(
         fuel: 0,
     };
     let mut called = Search::new(alloc)?;
+    let mut last = None;
     for k in 0..PLACES {
         if let Some(step) = program.step(FIRST + k) {
             counts.instructions = counts.instructions.wrapping_add(1);
+            if matches!(step.kind, Kind::Finish) {
+                last = program.note(FIRST + k);
+            }
             if let Some(sub) = step.calls {
                 if !called.is_marked(sub) {
                     counts.subroutines = counts.subroutines.wrapping_add(1);
@@ -1526,7 +1628,11 @@ pub(crate) fn count<A: Allocator + Copy>(
     }
     if let Some(nmi) = program.note(u32::from(program.word(NMI_VECTOR))) {
         counts.stack = counts.stack.wrapping_add(u32::from(nmi.room));
-        counts.fuel = u32::from(nmi.fuel);
+        let left = match last {
+            Some(note) => note.fuel,
+            None => 0,
+        };
+        counts.fuel = u32::from(nmi.fuel.saturating_sub(left)).wrapping_add(1);
     }
     Ok(counts)
 }
@@ -1552,8 +1658,9 @@ mod telling {
 //! What is told of a program that was judged.
 use std::prelude::*;
 
+use crate::bringer::{OFFER, PUT};
 use crate::hints::Hints;
-use crate::notes::tell_notes;
+use crate::notes::{tell_brought, tell_notes};
 use crate::order::causes_first;
 use crate::program::Program;
 use crate::reasons::tell_broken;
@@ -1761,6 +1868,9 @@ pub(crate) fn tell<A: Allocator + Copy>(
     if with_notes {
         let program = Program::new(rom, judged.notes.as_slice());
         done(tell_notes(&mut out, &program))?;
+        let ways = judged.ways.as_slice();
+        done(tell_brought(&mut out, &program, ways, OFFER, judged.tables.as_slice()))?;
+        done(tell_brought(&mut out, &program, ways, PUT, judged.words.as_slice()))?;
     }
     Ok(Told {
         verdict: judged.verdict,
@@ -1892,15 +2002,17 @@ pub(crate) fn tell_unseen<A: Allocator>(
 }
 mod vectors {
 //! What is told of the reset and of the vectors.
+use crate::alone::{tell_store, tell_wild};
 use crate::asks::level_name;
 use crate::instruction::Instruction;
 use crate::program::{NMI_VECTOR, Program};
-use dvg_game_check::{FIRST, Kind, Level, PLACES};
+use dvg_game_check::{FIRST, Kind, Level, PLACES, Test, reached};
 use dvg_io::Text;
 use std::alloc::Allocator;
 use std::fmt::{self, Write};
 
-/// The most instructions of the NMI, the most bytes that it may push, and the program.
+/// The most instructions of the NMI before its RTI, the most bytes that it may push, and those that
+/// the program may.
 const MOST_FUEL: u16 = 800;
 
 const MOST_ROOM_OF_NMI: u16 = 29;
@@ -1924,19 +2036,27 @@ pub(crate) fn tell_boot<A: Allocator>(
         if is_code(mirror) {
             write!(out, ": let its vector be {mirror:04X}")?;
         }
-        return write!(out, "\n");
+        return Ok(());
     }
     let i = Instruction::new(program, at);
     write!(out, "{i}: ")?;
-    let finishes = matches!(program.kind(at), Kind::Finish);
+    match program.kind(at) {
+        Kind::Wild => return tell_wild(out, &i, false),
+        Kind::Stores(place) if !reached(place, i.low, i.word, Test::Writable(Level::Main)) => {
+            return tell_store(out, &i, Level::Main);
+        }
+        _ => {}
+    }
+    let is_nmi = matches!(program.kind(at), Kind::Finish | Kind::Push | Kind::PushFlags);
     write!(
         out,
-        "a reset begins with LDX #$FF, TXS, in 32 instructions; before it come loads and stores alone: "
+        "a reset begins with LDX #$FF, TXS, in 32 instructions; before it come loads and stores \
+         alone: "
     )?;
-    if finishes {
-        return write!(out, "VECTORS has .word nmi, reset, irq, in this order\n");
+    if is_nmi {
+        return write!(out, "VECTORS has .word nmi, reset, irq, in this order");
     }
-    write!(out, "let this follow it\n")
+    write!(out, "let this follow it")
 }
 
 // Tells what is wrong with the note of the NMI's first instruction.
@@ -1952,9 +2072,10 @@ fn tell_nmi<A: Allocator>(out: &mut Text<A>, program: &Program<'_>) -> fmt::Resu
         );
     }
     if MOST_FUEL < note.fuel {
+        let most = MOST_FUEL + 1;
         return write!(
             out,
-            "the vectors: the NMI may loop, or does more than {MOST_FUEL} instructions\n"
+            "the vectors: the NMI may loop, or does more than {most} instructions\n"
         );
     }
     let room = note.room;

@@ -1,5 +1,5 @@
 """Faults of authors, planted in the games of this folder: of each the file, what it is, the old
-text, the new one, and words of the line that is wanted."""
+text, the new one, words of a line of `make proof`, and its status, if that isn't 1."""
 
 FAULTS = [
     ('lander.s', 'digits in the zero page',
@@ -40,9 +40,9 @@ FAULTS = [
      '        lda #3\n        jmp (at_x)', 'nobody knows where'),
     ('riders.s', 'a round that clears the zero page', 'clear:  sta cells,x',
      'clear:  sta cells,x\n        sta $00,x', 'by its index it may reach 0010'),
-    ('cannons.s', 'a subroutine of both an empty frame and one that is begun',
+    ('cannons.s', 'no fault: a tail of both an empty frame and one that is begun',
      '        jsr place_of\n        jsr dvg_open', '        jsr dvg_open\n        jsr place_of',
-     '(place_of) is called between dvg_open and dvg_labs'),
+     'no run of these bytes tears a picture', 0),
     ('cannons.s', 'a BRK', 'halves: lsr a', 'halves: brk\n        lsr a', 'where an IRQ does'),
     ('cannons.s', 'powder in a byte of the driver', 'sta powder + 1', 'sta dvg_phase',
      "the driver's byte 10"),
@@ -53,7 +53,7 @@ FAULTS = [
      'lda #$9F\n        jmp dvg_vector + 3', 'no routine that is proved'),
     ('common.inc', 'a phase that is set anew in each picture', 'picture:\n',
      'picture:\n        lda #DVG_START\n        sta dvg_phase\n',
-     '6AE7 (picture+2): sta $10: it may store'),
+     'dvg_labs comes before dvg_reset: the store at common.inc line '),
     ('common.inc', 'a reset that is left out on one way', '        jsr dvg_reset\n',
      '        bit IN_LEFT\n        bmi :+\n        jsr dvg_reset\n:\n',
      "which isn't called first on each way there"),
@@ -70,8 +70,8 @@ FAULTS = [
     ('tanks.s', 'an NMI that begins all anew', '        lda IN_SLAM\n        bmi no_fall',
      '        lda IN_SLAM\n        bpl *+5\n        jmp reset', 'the NMI jumps to the reset'),
     ('flak.s', 'a title behind the last one', 'cpy #tables_high - tables_low',
-     'cpy #tables_high - tables_low + 1', 'where no table stands'),
-    ('flak.s', 'a shape behind the last one', 'cpy #LISTED', 'cpy #LISTED + 1', 'it puts '),
+     'cpy #tables_high - tables_low + 1', 'where no table stands', 3),
+    ('flak.s', 'a shape behind the last one', 'cpy #LISTED', 'cpy #LISTED + 1', 'it puts ', 3),
     ('flak.s', 'a hit without its PLA', '        pla\n        ldy #SCORE_DIGITS - 2',
      '        ldy #SCORE_DIGITS - 2', 'on the stack'),
     ('flak.s', 'coins that a subroutine counts', '        inc coins\n', '        jsr one_more\n',
