@@ -1,9 +1,8 @@
 /* What a game is dropped as: its program, its sockets, its vector ROM, its labels, a zip of these,
  * or the page that `make page` wrote; and the games that are built in. */
 import { isText, kindOf } from './files.mjs';
-import { bytesOfBase64, hex } from './hex.mjs';
-import { labelsOf } from './programs.mjs';
-import { NMI_VECTOR, PROGRAM_END, RESET_VECTOR, START } from './tables.mjs';
+import { bytesOfBase64, hex, unpackedBytes } from './hex.mjs';
+import { NMI_VECTOR, PROGRAM_END, RESET_VECTOR, START, labelsOf } from './programs.mjs';
 import { grouped } from './words.mjs';
 
 const SOCKET_BYTES = 2048, NO_BYTE = 0xFF, SHAPES_END = 0x5800;
@@ -224,12 +223,7 @@ async function fileOfZip(bytes, view, entry) {
   const packed = bytes.slice(from, from + view.getUint32(entry + ZIP_ENTRY.PACKED, true));
   const isDeflated = view.getUint16(entry + ZIP_ENTRY.METHOD, true) === DEFLATED;
   return { name: new TextDecoder().decode(names).split('/').at(-1),
-    bytes: isDeflated ? await inflated(packed) : packed };
-}
-
-async function inflated(packed) {
-  const stream = new Blob([packed]).stream().pipeThrough(new DecompressionStream('deflate-raw'));
-  return new Uint8Array(await new Response(stream).arrayBuffer());
+    bytes: isDeflated ? await unpackedBytes(packed, 'deflate-raw') : packed };
 }
 
 /* A game that is built in, of its bytes behind the driver, its vectors, and the words of its vector

@@ -17,7 +17,7 @@ class Alone extends Player {
 }
 
 async function beginAlone() {
-  const player = new Alone(await Engine.of(bytesOfBase64(WASM)));
+  const player = new Alone(await Engine.ofPacked(WASM));
   listenToPlayer(player);
   listenToSizes([byId('tube')], () => player.drawAnew());
   player.restart();

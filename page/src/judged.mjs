@@ -5,6 +5,8 @@ import { counted } from './words.mjs';
 
 /* The milliseconds after which the watchdog resets. */
 const WATCHDOG_MILLISECONDS = 87;
+/* A line about an instruction, which begins with its address. */
+const IS_PLACE = /^[0-9A-F]{4}\b/;
 
 /* What is counted. Of the pictures, which are runs that came to HALT, those are `judged` whose runs
  * fetched more than word zero, or are mixed. Of the runs `drew` are those that drew a half, `broke`
@@ -86,9 +88,14 @@ export function outcomeOf({ torn, left, pictures, resets }) {
  * a game of which a part is missing, none that it may be is accepted. */
 export function everyVerdict({ verdict, lines }, { hasShapes = true, missing = '' } = {}) {
   const [first, ...others] = lines;
+  if (verdict === VERDICT.NONE) {
+    return { word: 'Not judged', color: '', lines: others, text: `: ${first}.` };
+  }
   if (verdict === VERDICT.REFUSED) {
-    return { word: 'Refused', color: 'early', lines, text: `: ${counted(lines.length, 'instruction')} `
-      + 'may tear a picture, or lead where this check can\'t follow. Why:' };
+    const count = lines.filter((line) => IS_PLACE.test(line)).length;
+    const what = count === 0 ? 'it' : counted(count, 'instruction');
+    return { word: 'Refused', color: 'early', lines, text: `: ${what} may tear a picture, or lead `
+      + 'where this check can\'t follow. Why:' };
   }
   if (verdict !== VERDICT.GOOD) {
     return { word: 'Not sure', color: 'early', text: `: ${first}.`, lines: others };

@@ -27,8 +27,7 @@ import {
 import { builtGame } from './eproms.mjs';
 import { Play, listenToPlay } from './play.mjs';
 import { FIRST_TWICE, Twice, listenToTwice } from './twice.mjs';
-import { labelsOf } from './programs.mjs';
-import { DRIVER_END, START } from './tables.mjs';
+import { DRIVER_END, START, labelsOf } from './programs.mjs';
 import { linesOfListing } from './twin.mjs';
 import { SCENES } from './playfield.mjs';
 import { ADVICE, FILES, FRAMES, GAMES, LISTING, WASM } from './built.mjs';
@@ -1147,7 +1146,7 @@ function makePlay() {
   play.onChange = showAddress;
   listenToPlay(play);
   byId('game-link').addEventListener('click', makeGameLink);
-  makeTwice(games, driver);
+  makeTwice(games);
 }
 
 /* The links out of the page, if the project has an address; and what "accepted" takes, beside both
@@ -1194,7 +1193,7 @@ function makeEditors() {
 }
 
 async function begin() {
-  const starting = Engine.of(bytesOfBase64(WASM));
+  const starting = Engine.ofPacked(WASM);
   screen = new Screen(byId('screen'));
   rows = new Rows(byId('rows'));
   memory = new Memory(byId('memory'));

@@ -413,7 +413,7 @@ export class Play extends Player {
   /* --- In every run --- */
 
   judge() {
-    const judged = judgeProgram(this.program, this.game.shapes, this.driver);
+    const judged = judgeProgram(this.engine, this.program, this.game.shapes);
     const every = everyVerdict(judged, this.game);
     showVerdict(byId('every'), every);
     setText(byId('every-lines'), every.lines.join('\n'));

@@ -2,18 +2,7 @@
  * reads and writes, but for those that an indexed address reads at a wrong page. Tested, not
  * proved. */
 import { hex } from './hex.mjs';
-import { INSTRUCTIONS, SIZES } from './opcodes.mjs';
-
-/* The instructions by their opcodes: a name, what it does and with which register, how it finds its
- * operand, and its bytes. */
-export const OPCODES = new Map(INSTRUCTIONS.split('\n').flatMap((line) => {
-  const [name, does, register, ...forms] = line.split(' ');
-  return forms.map((form) => {
-    const mode = form.slice(2);
-    return [parseInt(form.slice(0, 2), 16),
-      { name, does, register: register.replace('-', ''), mode, size: SIZES[mode] }];
-  });
-}));
+import { OPCODES } from './opcodes.mjs';
 
 /* Where the operand stands. */
 const PLACES = {
@@ -44,8 +33,9 @@ const READS = {
   bit: (cpu, byte) => cpu.test(byte),
 };
 
-/* The register that is written. */
+/* The register that is written; and from which one into which another is moved. */
 const STORES = { sta: 'a', stx: 'x', sty: 'y' };
+const MOVES = { tax: 'ax', tay: 'ay', txa: 'xa', tya: 'ya' };
 
 /* What a byte is changed to. It stands in A, where there is no operand. */
 const CHANGES = {
@@ -118,7 +108,7 @@ function cyclesOf(name, mode) {
 }
 
 /* What an instruction does on a processor, as a function of that. */
-function actionOf({ name, does, register: moved, mode }) {
+function actionOf({ name, mode }) {
   const place = PLACES[mode];
   if (name in READS) {
     const use = READS[name];
@@ -136,8 +126,8 @@ function actionOf({ name, does, register: moved, mode }) {
     const [flag, taken] = BRANCHES[name];
     return (cpu) => cpu.branch(cpu[flag] === taken);
   }
-  if (does === 'moves') {
-    const [from, to] = moved;
+  if (name in MOVES) {
+    const [from, to] = MOVES[name];
     return (cpu) => { cpu[to] = cpu.flag(cpu[from]); };
   }
   return mode === '(abs)' ? (cpu) => cpu.jumpByTable() : OTHERS[name];

@@ -447,7 +447,7 @@ export class Twice {
   }
 
   judge() {
-    const judged = judgeProgram(this.program, this.game.shapes, this.games.driver);
+    const judged = judgeProgram(this.engine, this.program, this.game.shapes);
     const { color, text } = everyVerdict(judged, this.game);
     const strong = Object.assign(document.createElement('strong'),
       { className: color, textContent: 'In every run' });

@@ -78,8 +78,8 @@ pub extern "C" fn dvg_input(length: usize) -> *mut u8 {
 }
 
 /// The command of a number: 0 list, 1 rom, 2 picture, 3 check, 4 play, 5 torn, 6 the SVG of a
-/// sketch, 7 the ROM of a sketch, 16 its frames as a table. With 8 more it has its option: `--all`,
-/// `--bound`, `--moments`, `--check`, of the ROM `--equates`, and of the frames `--draft`.
+/// sketch, 7 the ROM of a sketch, 16 its frames as a table, 17 game. With 8 more it has its option:
+/// `--all`, `--bound`, `--moments`, `--check`, of the ROM `--equates`, and of the frames `--draft`.
 fn job_of(number: u32) -> Option<Job> {
     let option = number & 8 != 0;
     match (number & !8, option) {
@@ -113,6 +113,7 @@ fn job_of(number: u32) -> Option<Job> {
         (16, true) => Some(Job::Lay {
             form: LayForm::Draft,
         }),
+        (17, false) => Some(Job::Game { notes: false }),
         _ => None,
     }
 }

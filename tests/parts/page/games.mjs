@@ -4,7 +4,7 @@
 //     node tests/parts/page/games.mjs DVG FOLDER SEEDS EVENTS [TEST..]
 //
 // FOLDER is for what is thrown away. Where tests are named, they alone are run, up to the first
-// failure. PROGRAMS says how many programs the checker answers about, changed at random [240], and
+// failure. PROGRAMS says how many programs the checker answers about, changed at random [2000], and
 // TRIES how many random states the 6502 has [1000000], by SEED. The last line is 'N passed, M
 // failed'.
 import { spawnSync } from 'node:child_process';
@@ -13,8 +13,8 @@ import {
   appendFileSync, cpSync, existsSync, mkdirSync, readFileSync, writeFileSync,
 } from 'node:fs';
 import { Arcade, HERTZ } from '../../../page/src/arcade.mjs';
-import { VERDICT, judgeProgram } from '../../../page/src/checker.mjs';
-import { Engine, KIND } from '../../../page/src/engine.mjs';
+import { judgeProgram } from '../../../page/src/checker.mjs';
+import { COMMAND, Engine, KIND } from '../../../page/src/engine.mjs';
 import {
   builtGame, gameOf, isOfGame, lengthFault, romAlone, unzipped, vectorsFault,
 } from '../../../page/src/eproms.mjs';
@@ -24,8 +24,9 @@ import { fragmentOf, plainFragment, stateOf } from '../../../page/src/links.mjs'
 import { withoutOutlines } from '../../../page/src/outlines.mjs';
 import { Play, withMistake } from '../../../page/src/play.mjs';
 import { KeptArcade, MOST_SLOTS, SLOT_CYCLES } from '../../../page/src/past.mjs';
-import { OPCODES, Processor } from '../../../page/src/processor.mjs';
-import { Program, labelsOf } from '../../../page/src/programs.mjs';
+import { OPCODES } from '../../../page/src/opcodes.mjs';
+import { Processor } from '../../../page/src/processor.mjs';
+import { DRIVER_END, Program, START, labelsOf } from '../../../page/src/programs.mjs';
 import { Screen } from '../../../page/src/screen.mjs';
 import { ROW, SIGN, areaOf } from '../../../page/src/signs.mjs';
 import {
@@ -235,23 +236,6 @@ irq:    pha
         rti`],
 ];
 
-// That program, made: its bytes, its labels, and its vector ROM.
-function madeWithBreak() {
-  const { games } = programs(), folder = `${work}/made/break`, file = `${folder}/first.s`;
-  cpSync(`${work}/made/first`, folder, { recursive: true });
-  let text = readFileSync(file, 'utf8');
-  for (const [old, now] of WITH_BREAK) {
-    expect(`first.s has ${old}`, true, text.includes(old));
-    text = text.replace(old, now);
-  }
-  writeFileSync(file, text);
-  const { status, stderr } = spawnSync('make', ['-s', '-C', folder, 'build/first.program'],
-    { env: { ...process.env, DVG: program } });
-  expect(`make of a program with BRK: ${stderr}`, 0, status);
-  return { bytes: readFileSync(`${folder}/build/first.program`), shapes: bytesOf(games.first.rom),
-    labels: readFileSync(`${folder}/build/first.labels`) };
-}
-
 // A board that keeps what comes into some bytes of RAM.
 class Keeping extends Arcade {
   write(address, byte) {
@@ -264,10 +248,10 @@ class Keeping extends Arcade {
 // it keeps in the arcade emulator, byte by byte.
 async function testBreakGame() {
   if (!hasTools) return console.log('skipped: a program with BRK: ca65 is not here');
-  const { bytes, labels, shapes } = madeWithBreak(), seconds = 4;
+  const { program: bytes, labels, shapes } = made('first', 'break', WITH_BREAK), seconds = 4;
   const { play, parts } = playOnStage();
-  await play.openFiles([{ name: 'first.program', bytes }, { name: 'first.labels', bytes: labels },
-    { name: 'rom', bytes: Buffer.from(shapes) }]);
+  await play.openFiles([{ name: 'first.program', bytes },
+    { name: 'first.labels', bytes: Buffer.from(labels) }, { name: 'rom', bytes: shapes }]);
   for (let k = 0; k < 60; k++) play.run(1 / 30);
   play.showTexts();
   const told = (id) => verdictOf(parts[id]).replace('/', '');
@@ -313,51 +297,38 @@ end)
 
 // --- Asteroids Deluxe ---
 
-// Makes a copy of an example for Asteroids Deluxe, with what `make proof` says of it.
-function makeForDeluxe(place, folder, name, edit) {
-  for (const part of ['board', 'crates/dvg_game_words', `examples/${folder}`]) {
-    cpSync(`${top}${part}`, `${place}/${part}`, { recursive: true });
+// Makes a copy of an example for Asteroids Deluxe, once: its sockets as `make eproms` writes them,
+// and its program, its vector ROM and its labels.
+function madeForDeluxe(folder, name) {
+  const place = `${work}/deluxe/examples/${folder}`;
+  if (!existsSync(place)) {
+    for (const part of ['board', 'crates/dvg_game_words', `examples/${folder}`]) {
+      cpSync(`${top}${part}`, `${work}/deluxe/${part}`, { recursive: true });
+    }
+    for (const what of ['clean', 'eproms']) {
+      spawnSync('make', ['-s', '-C', place, 'MACHINE=astdelux', what],
+        { env: { ...process.env, DVG: program } });
+    }
   }
-  const file = `${place}/examples/${folder}/${name}.s`;
-  writeFileSync(file, edit(readFileSync(file, 'utf8')));
-  for (const what of ['clean', 'proof', 'eproms']) {
-    const { stdout } = spawnSync('make', ['-s', '-C', `${place}/examples/${folder}`,
-      'MACHINE=astdelux', what], { env: { ...process.env, DVG: program } });
-    if (what === 'proof') writeFileSync(`${place}/said`, stdout);
-  }
-}
-
-// That copy, made once: what `make proof` says of it, its sockets as `make eproms` writes them, and
-// its program, its vector ROM and its labels.
-function madeForDeluxe(number, folder, name, edit = (text) => text) {
-  const place = `${work}/deluxe${number}`;
-  if (!existsSync(place)) makeForDeluxe(place, folder, name, edit);
-  const of = (path) => readFileSync(`${place}/examples/${folder}/build/${path}`);
-  const said = readFileSync(`${place}/said`, 'utf8').trim().split('\n');
+  const of = (path) => readFileSync(`${place}/build/${path}`);
   const sockets = ['d1_6000', 'ef1_6800', 'h1_7000', 'j1_7800', 'r2_4800', 'np2_5000']
     .map((one) => ({ name: `${one}.bin`, bytes: new Uint8Array(of(`eproms/${one}.bin`)) }));
   const files = [`${name}.program`, 'rom', `${name}.labels`]
     .map((one) => ({ name: one, bytes: new Uint8Array(of(one)) }));
-  return { said, sockets, files };
+  return { sockets, files };
 }
 
-const IN_LOW = ['nmi:    inc beats', '.segment "LOW"\nnmi:    inc beats\n        sta $3C07'];
-
-// The checker says of programs for Asteroids Deluxe what `make proof` says; dropped, they are the
-// same as their sockets, and run.
+// Programs for Asteroids Deluxe aren't judged; dropped, they are the same as their sockets, and
+// run.
 function testDeluxe() {
   if (!hasTools) return console.log('skipped: Asteroids Deluxe: ca65 is not here');
-  const [from, to] = IN_LOW, wrong = to.replace('3C07', '3C08');
-  for (const [k, [folder, name, edit, status]] of [['test_rom', 'test', undefined, 0],
-    ['first', 'first', undefined, 0], ['first', 'first', (text) => text.replace(from, to), 0],
-    ['first', 'first', (text) => text.replace(from, wrong), 1]].entries()) {
-    const { said, sockets, files } = madeForDeluxe(k, folder, name, edit);
+  for (const [folder, name] of [['test_rom', 'test'], ['first', 'first']]) {
+    const { sockets, files } = madeForDeluxe(folder, name);
     const game = gameOf(files), what = `${folder} for Deluxe`;
-    const { verdict, lines } = judgeProgram(new Program(game.program, game.labels), game.shapes,
-      driverOfPage());
-    expect(`${what}: the verdict`, status, verdict);
-    expect(`${what}: what is said`, said.map((line) => line.replace(/^refused: |: a script says.*/,
-      '')), lines);
+    const judged = judgeProgram(engine, new Program(game.program, game.labels), game.shapes);
+    const { word, color, text } = everyVerdict(judged, game);
+    expect(`${what}: the verdict`, ['Not judged', '', ': nothing is proved of the board of Asteroids '
+      + 'Deluxe.'], [word, color, text]);
     const { program: bytes, shapes, missing } = gameOf(sockets);
     expect(`${what}: its sockets`, [true, true, ''], [missing, ...[[bytes, game.program],
       [shapes, game.shapes]].map((pair) => Buffer.compare(...pair) === 0)].reverse());
@@ -427,66 +398,126 @@ function testDeluxeBoard() {
 // --- The checker ---
 
 // How many programs are changed at random.
-const CASES = Number(process.env.PROGRAMS || 240);
-
-// What board/prove says of programs: programs.py is asked once.
-function programs() {
-  const file = `${work}/programs.json`, folder = `${work}/made`;
-  if (!existsSync(file)) {
-    mkdirSync(folder, { recursive: true });
-    const asked = ['-B', `${top}tests/parts/page/programs.py`, folder, String(CASES), '1'];
-    const { stdout, stderr, status } = spawnSync('python3', asked,
-      { maxBuffer: 1 << 30, env: { ...process.env, DVG: program } });
-    if (status !== 0) throw new Error(`programs.py: ${stderr}`);
-    writeFileSync(file, stdout);
-  }
-  return JSON.parse(readFileSync(file, 'utf8'));
-}
+const CASES = Number(process.env.PROGRAMS || (isShort ? 300 : 2000));
 
 const hasTools = spawnSync('ca65', ['--version']).error === undefined;
 
-// The games that are built in have the bytes that `make` makes of examples/.
+// The sources of examples/ that aren't called `game`.
+const SOURCES = { first: 'first', test_rom: 'test' };
+
+// What `make` makes of a copy of an example with these edits, once for each place: its program, its
+// labels as a text, and its vector ROM.
+function made(folder, place = folder, edits = []) {
+  const path = `${work}/made/${place}`, name = SOURCES[folder] ?? 'game';
+  if (!existsSync(path)) {
+    cpSync(`${top}examples/${folder}`, path, { recursive: true,
+      filter: (file) => !file.endsWith('/build') });
+    edit(`${path}/makefile`, '../../board/', `${top}board/`);
+    for (const [old, now] of edits) edit(`${path}/${name}.s`, old, now);
+  }
+  const { status, stderr } = spawnSync('make', ['-s', '-C', path, `build/${name}.program`,
+    'build/rom'], { env: { ...process.env, DVG: program } });
+  expect(`make of ${place}: ${stderr}`, 0, status);
+  const of = (file) => readFileSync(`${path}/build/${file}`);
+  return { program: of(`${name}.program`), labels: of(`${name}.labels`).toString(),
+    shapes: of('rom') };
+}
+
+function edit(file, old, now) {
+  const text = readFileSync(file, 'utf8');
+  expect(`${file} has ${old}`, true, text.includes(old));
+  writeFileSync(file, text.replaceAll(old, () => now));
+}
+
+// The games that are built in have the bytes that `make` makes of examples/, and the driver's.
 function testBuilt() {
+  expect('where the driver ends', DRIVER_END, START + driverOfPage().length);
   if (!hasTools) return console.log('skipped: the bytes of the games: ca65 is not here');
-  const { games, driver } = programs();
-  expect('the driver\'s bytes', driver, Buffer.from(driverOfPage()).toString('base64'));
   for (const [folder, game] of [...GAMES, ['cave', caveOfPage()]]) {
-    const [bytes, shapes] = [game.program, game.shapes].map((one) => Buffer.from(one).toString(
-      'base64'));
-    expect(`the program of ${folder}`, games[folder].program, bytes);
-    expect(`the vector ROM of ${folder}`, games[folder].rom, shapes);
+    const wanted = made(folder);
+    expect(`the program of ${folder}`, true, wanted.program.equals(game.program));
+    expect(`the vector ROM of ${folder}`, true, wanted.shapes.equals(game.shapes));
   }
   return null;
 }
 
-// The bytes of a case: a game with changes, or a program of its own.
-function programOfCase(one, games) {
-  const game = one.program === undefined ? games[one.game] : one, bytes = bytesOf(game.program);
-  for (const [at, byte] of one.changes ?? []) bytes[at] = byte;
-  return { bytes, labels: labelsOf(game.labels), rom: bytesOf(game.rom) };
+// The faults of ../games/game_faults.py in copies of examples/bat, made once.
+function faultsOfBat() {
+  const file = `${work}/faults.json`, source = `${work}/made/fault/game.s`;
+  if (!existsSync(file)) {
+    const { stdout } = spawnSync('python3', ['-B', '-c', 'import game_faults, json; '
+      + 'print(json.dumps(game_faults.FAULTS))'], { cwd: `${top}tests/parts/games` });
+    made('bat', 'fault');
+    const text = readFileSync(source, 'utf8');
+    writeFileSync(file, JSON.stringify(JSON.parse(stdout).map(([what, old, now]) => {
+      writeFileSync(source, text);
+      edit(source, old, now);
+      const { program: bytes, labels, shapes } = made('bat', 'fault');
+      return { what, labels, program: bytes.toString('base64'), shapes: shapes.toString('base64') };
+    })));
+  }
+  return JSON.parse(readFileSync(file, 'utf8')).map(({ what, labels, program: bytes, shapes }) => (
+    { what, labels: labelsOf(labels), program: bytesOf(bytes), shapes: bytesOf(shapes) }));
 }
 
-// Of programs, most of them changed at random, each verdict and each line is that of board/prove
-// without names; and what is accepted here and refused there is so by its names alone.
+// What `dvg game` says of a game: `--notes` prints where its instructions are, too.
+function saidByProgram({ program: bytes, shapes }, ...words) {
+  return spawnSync(program, ['game', ...words], { input: Buffer.concat([shapes, bytes]) });
+}
+
+// Games with one to three bytes changed at random, most of them of instructions.
+function* changedGames(games) {
+  const drawn = numbersFrom(SEED), below = (most) => drawn() % most;
+  const places = games.map((game) => [...saidByProgram(game, '--notes').stdout.toString()
+    .matchAll(/^note (\w+):/gm)].map(([, at]) => parseInt(at, 16)));
+  for (let k = 0; k < CASES; k++) {
+    const number = below(games.length), { what, labels, ...game } = games[number];
+    const bytes = game.program.slice(), shapes = game.shapes.slice();
+    for (let count = below(3); count >= 0; count--) {
+      const at = places[number][below(places[number].length)] - START;
+      if (below(4) === 0) shapes[below(shapes.length)] = drawn();
+      else if (below(32) === 0) bytes[bytes.length - 1 - below(6)] = drawn();
+      else bytes[at + below(OPCODES.get(bytes[at])?.size ?? 1)] = drawn();
+    }
+    yield { what: `${what}, changed ${k}`, labels, program: bytes, shapes };
+  }
+}
+
+// The labels of places in a line; and of a line that is about an instruction the place that it
+// begins with, with its label before it, and that instruction, as they are wanted.
+const LABEL = / \(\w+(\+\d+)?\)/g, OF_INSTRUCTION = /^[0-9A-F]{4}( \(.*?\))?: \w{3}\w?( \S+)?: /;
+function beginningOf(line, { labels, program: bytes }) {
+  const at = parseInt(line, 16), [[before, label]] = [...labels, [0, '']]
+    .filter(([one]) => one <= at).sort(([one], [other]) => other - one);
+  const far = before === at ? '' : `+${at - before}`;
+  return `${hex(at, 4)}${label === '' ? '' : ` (${label}${far})`}: ${
+    new Program(bytes).at(at)}: `;
+}
+
+// Of each game of the page, of faults and of what was changed at random dvg.wasm says what `dvg
+// game` says, byte for byte; and so does the page, with the names of places, and of an instruction
+// as the page writes it.
 function testChecker() {
-  if (!hasTools) return console.log('skipped: the checker beside board/prove: ca65 is not here');
-  const { games, cases, driver } = programs(), proved = bytesOf(driver);
-  const counts = { 0: 0, 1: 0, 3: 0, named: 0 };
-  const some = isShort ? cases.filter((one, k) => k % 4 === 0 || one.program) : cases;
-  for (const [k, one] of some.entries()) {
-    const { bytes, labels, rom } = programOfCase(one, games);
-    const { verdict, lines } = judgeProgram(new Program(bytes, labels), rom, proved);
-    const what = `case ${k}, ${one.game} with ${JSON.stringify(one.changes ?? 'a fault')}`;
-    expect(`${what}: the lines`, one.lines, lines);
-    expect(`${what}: the verdict`, one.status, verdict);
-    counts[verdict]++;
-    if (verdict !== one.named) counts.named++;
+  const games = [...GAMES, ['cave', caveOfPage()]].map(([what, game]) => ({ ...game, what }));
+  const faults = hasTools ? faultsOfBat() : [], counts = { 0: 0, 1: 0, 3: 0 };
+  if (!hasTools) console.log('skipped: faults of a game: ca65 is not here');
+  for (const game of [...games, ...faults, ...changedGames(games)]) {
+    const { status, stdout, stderr } = saidByProgram(game), { what } = game;
+    const got = engine.runBytes(COMMAND.game, Uint8Array.of(...game.shapes, ...game.program));
+    expect(`${what}: the same bytes`, [status, true, true],
+      [got.status, stdout.equals(got.output), stderr.equals(got.error)]);
+    const judged = judgeProgram(engine, new Program(game.program, game.labels), game.shapes);
+    expect(`${what}: the verdict`, status, judged.verdict);
+    expect(`${what}: the lines`, stdout.toString().trim().replace(/^refused: /, '').split('\n'),
+      judged.lines.map((line) => line.replace(LABEL, '')));
+    for (const line of judged.lines.filter((one) => OF_INSTRUCTION.test(one))) {
+      expect(`${what}: ${line}`, true, line.startsWith(beginningOf(line, game)));
+    }
+    counts[status]++;
   }
-  for (const verdict of Object.values(VERDICT)) {
-    expect(`some have the verdict ${verdict}`, true, counts[verdict] > 0);
-  }
-  return console.log(`the checker beside board/prove: ${some.length} programs, ${counts[0]} `
-    + `accepted, ${counts[1]} refused, ${counts[3]} unseen; ${counts.named} told apart by names`);
+  for (const status of [0, 1, 3]) expect(`some have ${status}`, true, counts[status] > 3);
+  return console.log(`dvg.wasm beside dvg game: ${games.length} games, ${faults.length} faults, `
+    + `${CASES} changed; ${counts[0]} accepted, ${counts[1]} refused, ${counts[3]} unseen`);
 }
 
 // --- The board and its judges ---
@@ -1095,9 +1126,9 @@ async function testGamePage() {
 // `make page` makes that page, and `make watch` does so again once the game changes, not before.
 function testMakePage() {
   if (!hasTools) return console.log('skipped: make page: ca65 is not here');
-  programs();
   for (const folder of ['bat', 'first']) {
-    const place = `${work}/made/${folder}`, name = folder === 'bat' ? 'game' : 'first';
+    const place = `${work}/made/page_${folder}`, name = SOURCES[folder] ?? 'game';
+    made(folder, `page_${folder}`);
     const make = (...words) => {
       const { status, stdout, stderr } = spawnSync('make', ['-s', '-C', place, ...words],
         { env: { ...process.env, DVG: program } });

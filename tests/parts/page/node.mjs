@@ -87,7 +87,7 @@ const COMMANDS = {
   play: COMMAND.play, torn: COMMAND.torn, 'picture --all': COMMAND.picture + OPTION,
   'check --bound': COMMAND.check + OPTION, 'play --all': COMMAND.play + OPTION,
   render: COMMAND.sketch, 'render --check': COMMAND.sketch + OPTION, 'lay --rom': COMMAND.layRom,
-  'lay --equates': COMMAND.layRom + OPTION, 'lay --table': COMMAND.layTable,
+  'lay --equates': COMMAND.layRom + OPTION, 'lay --table': COMMAND.layTable, game: COMMAND.game,
 };
 const read = (folder, file) => (existsSync(`${folder}/${file}`) ? readFileSync(`${folder}/${file}`)
   : Buffer.alloc(0));

@@ -82,6 +82,7 @@ export async function runPage(html, more = {}) {
     ResizeObserver: class { observe() {} },
     addEventListener: (...words) => body.addEventListener(...words),
     matchMedia: () => ({ matches: false }), devicePixelRatio: 1, navigator: {}, WebAssembly, atob,
+    Blob, Response, DecompressionStream,
     ...more,
   };
   runInContext(scriptOf(html), createContext(global));
