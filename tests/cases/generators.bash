@@ -80,18 +80,26 @@ game() {
 # NMI at 6AA0; with a frame that has what these bytes put.
 looped() { game A2 FF 9A 20 00 68 "$@"; }
 called() { looped 20 93 6A 4C 8D 6A "$@"; }
-interrupted() { looped 4C 8D 6A 7FFA: A0 6A 6AA0: "$@"; }
+# shellcheck disable=SC2086
+interrupted() { looped $nmi "$@"; }
 # shellcheck disable=SC2086
 framed() { looped $begins "$@" $ends; }
 
 # The same with a jump back to 6A8D; and what is said of each of these: `say_of loops 07 '91 21'`.
 loops() { looped "$@" 4C 8D 6A; }
 # shellcheck disable=SC2086
-say_of() { for bytes in "${@:2}"; do $1 $bytes | dvg game; done; }
+say_of() { local bytes; for bytes in "${@:2}"; do $1 $bytes | dvg game; done; }
 
-# What begins a frame, and ends it and shows it again and again; what offers a table at 7000; and
-# what puts one of two words of lists at 7000 and 7010.
+# Two lines of what is said of each of these, behind the call of dvg_reset.
+# shellcheck disable=SC2086
+judge_each() { local bytes; for bytes; do looped $bytes | dvg game | head -n 2; done; }
+
+# What begins a frame, and ends it and shows it again and again; what offers a table at 7000, and
+# puts one of two words of lists at 7000 and 7010; and a loop, and an NMI from 6AA0 on.
+nmi='4C 8D 6A 7FFA: A0 6A 6AA0:'
+# shellcheck disable=SC2034
 labs='A9 00 20 79 69' begins='20 24 69 A9 00 20 79 69' ends='20 00 6A 20 09 68 4C 8D 6A'
+# shellcheck disable=SC2034
 offers='A9 00 A2 70 20 FE 68 20 09 68 4C 8D 6A'
 listed='A4 21 C0 02 B0 09 B9 00 70 BE 10 70 20 57 69'
 
