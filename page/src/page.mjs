@@ -618,6 +618,7 @@ function showView(view) {
   for (const one of [VIEWS.twice, VIEWS.game]) document.body.classList.toggle(one, one === view);
   play.setShown(view === VIEWS.game);
   twice.setShown(view === VIEWS.twice);
+  byId(view === VIEWS.twice ? 'both-foot' : 'scope-by-game').append(byId('scope-box'));
   fitSizes();
 }
 
@@ -1168,6 +1169,7 @@ function makeTwice(games, driver) {
   byId('these-bytes').addEventListener('click', openTape);
   twice.fit = () => fitSizes();
   listenToTwice(twice);
+  play.scope.look = () => (twice.isShown ? twice.strokesOfCut : play.strokesInView);
 }
 
 function makeEditors() {

@@ -3,7 +3,7 @@
 import { Arcade, HERTZ } from './arcade.mjs';
 import { Pads } from './gamepads.mjs';
 import { byId, setText } from './parts.mjs';
-import { Scope } from './scope.mjs';
+import { Scope, listenToScope } from './scope.mjs';
 import { Screen } from './screen.mjs';
 import { Ears } from './sounds.mjs';
 
@@ -20,8 +20,8 @@ export const GAME_KEYS = {
 export class Player {
   constructor(engine) {
     Object.assign(this, { engine, arcade: null, isShown: false, isPaused: false, script: [] });
-    Object.assign(this, { pads: new Pads(), ears: new Ears(byId('sound')) });
-    Object.assign(this, { scope: null, isScoped: false, asked: 0 });
+    Object.assign(this, { pads: new Pads(), ears: new Ears(byId('sound')), asked: 0 });
+    this.scope = new Scope(() => this.strokesInView);
     this.screen = new Screen(byId('tube'));
     this.press = this.press.bind(this);
     this.frame = this.frame.bind(this);
@@ -94,21 +94,10 @@ export class Player {
     this.hush();
   }
 
-  /* The picture goes to an oscilloscope in their place, also while the game rests. */
-  setScoped(isScoped) {
-    this.isScoped = isScoped;
-    byId('scope').setAttribute('aria-pressed', String(isScoped));
-    byId('scope-box').hidden = !isScoped;
-    if (isScoped) this.scope ??= new Scope();
-    this.draw();
-    this.hush();
-  }
-
-  /* They are heard only while the game runs, and is in view. */
+  /* They are heard only while the game runs, and is in view; and no picture is played. */
   hush() {
-    const { arcade, isScoped } = this, isInView = this.isShown && !document.hidden;
-    this.ears.follow(arcade, !isScoped && isInView && !this.isPaused);
-    this.scope?.follow(isScoped && isInView);
+    const { arcade, scope } = this, isInView = this.isShown && !document.hidden;
+    this.ears.follow(arcade, !scope.isOn && isInView && !this.isPaused);
   }
 
   /* --- The picture --- */
@@ -125,6 +114,9 @@ export class Player {
     return picture !== null && processor.cycles - this.seenAt < GLOW * HERTZ ? picture : null;
   }
 
+  /* Its strokes, or null if the tube isn't in view. */
+  get strokesInView() { return this.isShown ? this.seen?.strokes ?? [] : null; }
+
   /* What a torn picture is made of: all of it is red. */
   tearOf({ strokes }) { return { wanted: [], next: [], wrong: strokes }; }
 
@@ -133,7 +125,6 @@ export class Player {
     this.screen.draw(seen, null, false, seen?.torn ? this.tearOf(seen) : null);
     const count = String(seen?.strokes.length ?? 0), { dataset } = byId('tube');
     if (dataset.strokes !== count) dataset.strokes = count;
-    if (this.isScoped) this.scope.show(seen?.strokes ?? null);
   }
 
   /* --- Hands --- */
@@ -208,7 +199,7 @@ export function listenToPlayer(player) {
   on('restart', () => player.restart());
   on('pause', () => player.setPaused(!player.isPaused));
   on('sound', () => player.setLoud(!player.ears.isLoud));
-  on('scope', () => player.setScoped(!player.isScoped));
+  listenToScope(player.scope, () => player.hush());
   document.addEventListener('visibilitychange', () => player.hush());
   addEventListener('blur', () => player.releaseAll());
 }

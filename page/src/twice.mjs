@@ -395,6 +395,13 @@ export class Twice {
     byId('stroke').setAttribute('aria-valuetext', text);
   }
 
+  /* The strokes that are on the right tube: an oscilloscope shows that board. */
+  get strokesOfCut() {
+    if (this.phase !== 'stopped') return this.cut.seen?.strokes ?? [];
+    const { right } = this.tear, time = this.steps[Number(byId('stroke').value)];
+    return right.strokes.slice(0, right.countAt(time));
+  }
+
   tellTexts() {
     for (const { arcade, verdict, reset } of this.sides) {
       showVerdict(verdict, picturesVerdict(arcade.counts));
@@ -515,6 +522,10 @@ export function listenToTwice(twice) {
     byId('why').setAttribute('aria-expanded', String(!byId('whys').hidden));
     setText(byId('why-byte'), twice.byteText);
     if (!byId('whys').hidden) byId('whys').scrollIntoView({ block: 'nearest' });
+  });
+  // Who clicks it goes on by the keys of the game.
+  on('scope', 'click', ({ detail }) => {
+    if (twice.isShown && detail > 0) byId('tube-cut').focus({ preventScroll: true });
   });
   for (const id of ['both-beam', 'both-ignored']) on(id, 'change', () => twice.beginAnew());
   on('both-anew', 'click', () => twice.beginAnew());

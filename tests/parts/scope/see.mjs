@@ -1,19 +1,22 @@
-// Looks at sound as an oscilloscope in XY mode would, and measures how well it shows a picture:
+// Looks at sound as an oscilloscope in XY mode would, and measures how well it shows pictures:
 //
-//     node see.mjs OUT.wav PICTURES [--at SECOND] [--high-pass HZ] [--low-pass HZ] [--number N]
-//         [--png FILE]
+//     node see.mjs OUT.wav PICTURES [--pictures N] [--volume PERCENT] [--high-pass HZ]
+//         [--from TURN] [--turns N] [--png FILE]
 //
-// PICTURES is what `dvg play` or `dvg picture` prints, or an SVG of `dvg`. Of the sound one picture
-// is taken, which begins at SECOND [default: 1]; N is its number in PICTURES [0]. Before that the
-// card's high-pass of the first order lets it through from HZ on [0: all of it], and its low-pass
-// makes eight places of each sample, by a windowed sinc that ends at 0.5 of the rate. A line has
-// the numbers: see NAMES.
+// PICTURES is what `dvg play` or `dvg picture` prints, or an SVG of `dvg`. The sound has each of
+// them in turn, --pictures in a second [60], and again from the first one; the screen is --volume
+// of the full scale [80]. Turns from TURN [0] on are looked at, so many [as there are pictures],
+// behind the output's high-pass of the first order, from HZ on [0: none]; eight places of the beam
+// are made of each sample, by a windowed sinc that ends at half of the rate. A line has of each
+// number of NAMES the median over these turns, and the largest. FILE gets the first of them.
 import { readFileSync, writeFileSync } from 'node:fs';
 import { crc32, deflateSync } from 'node:zlib';
 
 const UNIT = 512, SIDE = 1023, FIELD = 4096, FINE = 8, TAPS = 24;
 // How far from a stroke light counts as off it, and how near a place of a stroke must be to light.
 const OFF = 4, NEAR = 3;
+// How far around the screen it is looked, in units.
+const AROUND = 20;
 
 export function waveOf(bytes) {
   let at = 12, head = null;
@@ -104,12 +107,6 @@ export function fine(values, from, count) {
   return made;
 }
 
-function farFrom([x0, y0, x1, y1], x, y) {
-  const dx = x1 - x0, dy = y1 - y0, square = dx * dx + dy * dy;
-  const at = square === 0 ? 0 : Math.min(1, Math.max(0, ((x - x0) * dx + (y - y0) * dy) / square));
-  return [Math.hypot(x - x0 - at * dx, y - y0 - at * dy), at];
-}
-
 const quantile = (sorted, part) => (
   sorted[Math.min(sorted.length - 1, sorted.length * part | 0)] ?? Infinity);
 
@@ -119,75 +116,59 @@ export const NAMES = {
   off: `percent of the light farther than ${OFF} units from each stroke`,
   dark: `percent of the strokes' length without light within ${NEAR} units`,
   uneven: 'by how many percent the light of a unit differs, at the root of the mean square',
-  shift: 'units by which all was shifted, before it was measured',
-  out: 'percent of the time off the screen: with `--fit no`, which shifts nothing',
+  out: 'percent of the time off the screen',
 };
 
-export function measured(strokes, xs, ys) {
-  const count = xs.length, lights = new Float64Array(strokes.length), far = new Float64Array(count);
-  const cells = strokes.map(([x0, y0, x1, y1]) => (
-    new Uint8Array(Math.max(1, Math.ceil(Math.hypot(x1 - x0, y1 - y0))))));
-  for (let k = 0; k < count; k++) {
-    let best = Infinity, owner = 0;
-    for (let s = 0; s < strokes.length; s++) {
-      const [distance, at] = farFrom(strokes[s], xs[k], ys[k]);
-      if (distance < best) [best, owner] = [distance, s];
-      if (distance < NEAR) cells[s][Math.min(cells[s].length - 1, at * cells[s].length | 0)] = 1;
-    }
-    far[k] = best;
-    if (best <= OFF) lights[owner]++;
-  }
-  // Between two places the beam is in between: what they have on both sides is lit, too.
-  let dark = 0, all = 0;
-  for (const cell of cells) {
-    const lit = [...cell.keys()].filter((k) => cell[k]);
-    all += cell.length;
-    if (lit.length === 0) dark += cell.length;
-    else {
-      dark += lit[0] + cell.length - 1 - lit.at(-1);
-      for (let k = 1; k < lit.length; k++) if (lit[k] - lit[k - 1] > 8) dark += lit[k] - lit[k - 1];
+// Of each place of the beam how far it is from the nearest stroke, and which that is; and of each
+// unit along each stroke whether a place is near.
+function nearestStrokes(strokes, xs, ys) {
+  const far = new Float64Array(xs.length), owners = new Uint16Array(xs.length);
+  const flat = Float64Array.from(strokes.flatMap(([x0, y0, x1, y1]) => (
+    [x0, y0, x1 - x0, y1 - y0, (x1 - x0) ** 2 + (y1 - y0) ** 2])));
+  const cells = strokes.map((_, s) => (
+    new Uint8Array(Math.max(1, Math.ceil(Math.sqrt(flat[5 * s + 4]))))));
+  for (let k = 0; k < xs.length; k++) {
+    far[k] = Infinity;
+    for (let s = 0, at = 0; s < strokes.length; s++, at += 5) {
+      const x = xs[k] - flat[at], y = ys[k] - flat[at + 1], dx = flat[at + 2], dy = flat[at + 3];
+      const part = Math.min(1, Math.max(0, (x * dx + y * dy) / (flat[at + 4] || 1)));
+      const square = (x - part * dx) ** 2 + (y - part * dy) ** 2;
+      if (square < far[k]) [far[k], owners[k]] = [square, s];
+      if (square >= NEAR ** 2) continue;
+      cells[s][Math.min(cells[s].length - 1, part * cells[s].length | 0)] = 1;
     }
   }
-  const sizes = strokes.map((s) => (Math.hypot(s[2] - s[0], s[3] - s[1]) || 3) * s[4]);
-  const sum = sizes.reduce((a, b) => a + b), sumOfLight = lights.reduce((a, b) => a + b);
-  let square = 0;
-  sizes.forEach((size, s) => {
-    square += size / sum * (lights[s] / sumOfLight / (size / sum) - 1) ** 2;
-  });
-  const sorted = far.slice().sort();
-  return {
-    half: quantile(sorted, 0.5), most: quantile(sorted, 0.95),
-    off: 100 * (1 - far.filter((one) => one <= OFF).length / (count || Infinity)),
-    dark: 100 * dark / all, uneven: 100 * Math.sqrt(square),
-  };
+  return { far: far.map(Math.sqrt), owners, cells };
 }
 
-// The shift that fits best: of the middle of the light to that of the strokes, and then by steps.
-export function fitted(strokes, xs, ys) {
-  let best = null;
-  const some = (values) => values.filter((_, k) => k % 16 === 0);
-  const [fewX, fewY] = [some(xs), some(ys)];
-  const cost = (dx, dy) => fewX.reduce((sum, x, k) => sum + Math.min(30,
-    Math.min(...strokes.map((s) => farFrom(s, x + dx, fewY[k] + dy)[0]))), 0);
-  const middle = [0, 1].map((axis) => {
-    const sizes = strokes.map((s) => (Math.hypot(s[2] - s[0], s[3] - s[1]) || 3) * s[4]);
-    const sum = strokes.reduce((total, s, k) => total + sizes[k] * (s[axis] + s[axis + 2]) / 2, 0);
-    const values = [xs, ys][axis];
-    return sum / sizes.reduce((a, b) => a + b) - values.reduce((a, b) => a + b) / values.length;
-  });
-  let at = [0, 0];
-  best = cost(0, 0);
-  if (cost(...middle) < best) [at, best] = [middle, cost(...middle)];
-  for (let step = 16; step >= 0.5; step /= 2) {
-    for (let more = true; more;) {
-      more = false;
-      for (const [dx, dy] of [[step, 0], [-step, 0], [0, step], [0, -step]]) {
-        const now = cost(at[0] + dx, at[1] + dy);
-        if (now < best) [best, at, more] = [now, [at[0] + dx, at[1] + dy], true];
-      }
-    }
-  }
-  return at;
+// How many units of a stroke are dark. Between two places the beam is in between: what they have on
+// both sides is lit, too.
+function darkUnits(cell) {
+  const lit = [...cell.keys()].filter((k) => cell[k]);
+  if (lit.length === 0) return cell.length;
+  return lit.reduce((dark, at, k) => dark + (k > 0 && at - lit[k - 1] > 8 ? at - lit[k - 1] : 0),
+    lit[0] + cell.length - 1 - lit.at(-1));
+}
+
+// By how much the light of a unit differs, of strokes that got so much.
+function unevenness(strokes, lights) {
+  const sizes = strokes.map((s) => (Math.hypot(s[2] - s[0], s[3] - s[1]) || 3) * s[4]);
+  const [size, light] = [sizes, lights].map((all) => all.reduce((a, b) => a + b));
+  return Math.sqrt(sizes.reduce((square, one, s) => (
+    square + one / size * (lights[s] / light / (one / size) - 1) ** 2), 0));
+}
+
+export function measured(strokes, xs, ys) {
+  const { far, owners, cells } = nearestStrokes(strokes, xs, ys);
+  const lights = new Float64Array(strokes.length);
+  far.forEach((one, k) => { if (one <= OFF) lights[owners[k]]++; });
+  const sorted = far.slice().sort(), units = cells.reduce((sum, cell) => sum + cell.length, 0);
+  return {
+    half: quantile(sorted, 0.5), most: quantile(sorted, 0.95),
+    off: 100 * (1 - far.filter((one) => one <= OFF).length / (far.length || Infinity)),
+    dark: 100 * cells.reduce((dark, cell) => dark + darkUnits(cell), 0) / units,
+    uneven: 100 * unevenness(strokes, lights),
+  };
 }
 
 // A grey PNG of the beam's places: a spot of light at each, and what glows together is brighter.
@@ -224,53 +205,36 @@ export function pngOf(xs, ys, size = 560, low = -40, high = 1063) {
     chunk('IDAT', deflateSync(raw, { level: 9 })), chunk('IEND', Buffer.alloc(0))]);
 }
 
-// What a card's low-pass of the second order leaves, of which 0.7 passes at this frequency.
-export function lowPassed(values, rate, hertz) {
-  const w = Math.tan(Math.PI * hertz / rate), a = 1 + Math.SQRT2 * w + w * w;
-  const [b1, b2] = [2 * (w * w - 1) / a, (1 - Math.SQRT2 * w + w * w) / a];
-  const made = new Float64Array(values.length);
-  for (let k = 2; k < values.length; k++) {
-    const sum = values[k] + 2 * values[k - 1] + values[k - 2];
-    made[k] = w * w / a * sum - b1 * made[k - 1] - b2 * made[k - 2];
-  }
-  return made;
+// What an oscilloscope shows of `count` samples of a sound, in units of the screen: its places.
+export function seen({ rate, sides }, from, count, scale, highPass) {
+  return sides.map((side) => fine(highPassed(side, rate, highPass), from, count)
+    .map((value) => (value / scale + 1) * SIDE / 2));
 }
 
-// What an oscilloscope shows of one picture of a sound: places in units of the screen. The low-pass
-// has 300 samples to settle.
-export function seen({ rate, sides }, from, count, scale, high, low = 0) {
-  const before = low > 0 ? Math.min(300, from) : 0;
-  return sides.map((side) => {
-    const passed = fine(highPassed(side, rate, high), from - before, count + before);
-    const left = (low > 0 ? lowPassed(passed, rate * FINE, low) : passed).slice(before * FINE);
-    return left.map((value) => (value / scale + 1) * SIDE / 2);
+// The numbers of what is seen of one turn of a sound; and the places that are on the screen.
+export function turnOf(sound, strokes, from, count, scale, highPass) {
+  const sides = seen(sound, from, count, scale, highPass), all = [...sides[0].keys()];
+  const isIn = (place) => place > -AROUND && place < SIDE + AROUND;
+  const inside = all.filter((k) => isIn(sides[0][k]) && isIn(sides[1][k]));
+  const [xs, ys] = sides.map((side) => Float64Array.from(inside, (k) => side[k]));
+  return { ...measured(strokes, xs, ys), out: 100 * (1 - xs.length / all.length), xs, ys };
+}
+
+function main([path, text, ...words]) {
+  const options = { pictures: 60, volume: 80, 'high-pass': 0, from: 0, turns: 0 };
+  for (let k = 0; k < words.length; k += 2) options[words[k].slice(2)] = words[k + 1];
+  const sound = waveOf(readFileSync(path)), pictures = picturesOf(readFileSync(text, 'utf8'));
+  const count = Math.round(sound.rate / options.pictures);
+  const turns = Array.from({ length: Number(options.turns) || pictures.length }, (_, k) => {
+    const turn = Number(options.from) + k, strokes = pictures[turn % pictures.length];
+    return turnOf(sound, strokes, turn * count, count, options.volume / 100,
+      Number(options['high-pass']));
   });
-}
-
-function main([path, pictures, ...words]) {
-  const options = Object.fromEntries(words.map((word, k) => (
-    k % 2 ? [] : [word.slice(2), words[k + 1]])).filter((pair) => pair.length > 0));
-  const sound = waveOf(readFileSync(path));
-  const strokes = picturesOf(readFileSync(pictures, 'utf8'))[Number(options.number ?? 0)];
-  const count = Number(options.count ?? Math.round(sound.rate / Number(options.pictures ?? 60)));
-  const from = options.from ? Number(options.from)
-    : Math.floor(Number(options.at ?? 1) * sound.rate / count) * count;
-  const scale = Number(options.volume ?? 80) / 100;
-  let [xs, ys] = seen(sound, from, count, scale, Number(options['high-pass'] ?? 0),
-    Number(options['low-pass'] ?? 0));
-  const isIn = (k) => [xs[k], ys[k]].every((place) => place > -20 && place < SIDE + 20);
-  const all = xs.length, inside = [...xs.keys()].filter(isIn);
-  if (options.fit === 'no') {
-    [xs, ys] = [xs, ys].map((side) => Float64Array.from(inside, (k) => side[k]));
-  }
-  const [dx, dy] = options.fit === 'no' ? [0, 0] : fitted(strokes, xs, ys);
-  xs = xs.map((x) => x + dx);
-  ys = ys.map((y) => y + dy);
-  const numbers = { ...measured(strokes, xs, ys), shift: Math.hypot(dx, dy),
-    out: 100 * (1 - xs.length / all) };
-  console.log(`${strokes.length} strokes, ${sound.rate} Hz, ${count} samples:`,
-    Object.entries(numbers).map(([name, value]) => `${name} ${value.toFixed(1)}`).join(' '));
-  if (options.png) writeFileSync(options.png, pngOf(xs, ys));
+  console.log(Object.keys(NAMES).map((name) => {
+    const sorted = Float64Array.from(turns, (turn) => turn[name]).sort();
+    return `${name} ${quantile(sorted, 0.5).toFixed(2)} ${sorted.at(-1).toFixed(2)}`;
+  }).join(' '));
+  if (options.png) writeFileSync(options.png, pngOf(turns[0].xs, turns[0].ys));
 }
 
 if (process.argv[1] === new URL(import.meta.url).pathname) main(process.argv.slice(2));
