@@ -8,6 +8,7 @@
 import { spawn } from 'node:child_process';
 import { mkdtempSync, writeFileSync } from 'node:fs';
 import { connect, createServer } from 'node:net';
+import { TAP, listen, litOn } from '../scope/tap.mjs';
 import { DROP_LONG_LOG, MOVE_OVER_IT, movesText } from './long.mjs';
 
 const [firefox, work] = process.argv.slice(2);
@@ -158,6 +159,19 @@ async function testGame(browser) {
     '/^It goes dark: /.test(document.getElementById("what-text").textContent)'));
 }
 
+// Scope plays what is on the tube, in whole turns.
+async function testScope(browser) {
+  await browser.send('Navigate', { url: `${front}#game=Rocks` });
+  await browser.until('document.body.dataset.ready === "yes"');
+  await browser.value(TAP);
+  await browser.value('document.getElementById("scope").click()');
+  const heard = await listen(browser, 6);
+  console.log(`scope in Firefox: ${JSON.stringify(heard)}`);
+  expect('all that is heard is whole turns of pictures', 'no, yes',
+    [heard.lost + heard.silent > 0, heard.turns > 100].map((is) => (is ? 'yes' : 'no')).join(', '));
+  expect('it is the picture on the tube', true, await browser.until(`${litOn('tube')} > 90`));
+}
+
 // The link of a lesson leads the keys to the rows, and opens the lesson anew while it is open.
 async function testLesson(browser) {
   for (const what of ['opens', 'opens anew']) {
@@ -183,6 +197,7 @@ async function testPage(browser) {
     opened.push(Number(await browser.value('document.body.dataset.opened')));
   }
   await testGame(browser);
+  await testScope(browser);
   await browser.send('Navigate', { url: address });
   opened.sort((a, b) => a - b);
   const [least, , median, , most] = opened;
