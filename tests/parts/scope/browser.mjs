@@ -32,7 +32,7 @@ await tab.size(1280, 1000);
 await open('#game=Rocks');
 const heard = await listen(tab, 12);
 console.log(`scope in Chromium: ${JSON.stringify(heard)}`);
-expect('all that is heard is whole turns of pictures', heard.lost + heard.silent === 0
+expect('all that is heard is whole turns of pictures', heard.lost + heard.silent + heard.first === 0
   && heard.turns > 200 && heard.changes > 10, heard);
 expect('it is the picture on the tube', await tab.until(`${litOn('tube')} > 90`), 0);
 await tab.click('pause');

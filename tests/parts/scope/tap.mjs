@@ -24,14 +24,16 @@ export const TAP = `(() => {
 })()`;
 
 // Follows each block turn by turn, after the silence before the first picture: how many whole turns
-// are in it, how often another picture began, and how many samples are of no turn, or silent.
+// are in it, how often another picture began, and how many samples are of no turn, or silent; and in
+// how many turns the first sample is another one.
 const HEARD = `(() => {
-  const { pictures, blocks } = tapped, found = { turns: 0, changes: 0, lost: 0, silent: 0 };
+  const { pictures, blocks } = tapped, found = { turns: 0, changes: 0, lost: 0, silent: 0, first: 0 };
   const near = (a, b) => Math.abs(a - b) < 1e-4;
+  const isAt = (block, at, [left, right], k) => (
+    near(block[0][at], left[k]) && near(block[1][at], right[k]));
   const fits = (block, at, picture, from) => {
-    const { length } = picture[0];
-    for (let k = from; k < length && at < block[0].length; k++, at++) {
-      if (!near(block[0][at], picture[0][k]) || !near(block[1][at], picture[1][k])) return false;
+    for (let k = from; k < picture[0].length && at < block[0].length; k++, at++) {
+      if (k > 0 && !isAt(block, at, picture, k)) return false;
     }
     return true;
   };
@@ -57,6 +59,7 @@ const HEARD = `(() => {
       if (then < 0) found.lost++;
       else if (then !== number) found.changes++;
       if (then >= 0) found.turns++;
+      if (then >= 0 && !isAt(block, now, pictures[then], 0)) found.first++;
       [number, now] = then < 0 ? [number, now + 1] : [then, now + pictures[then][0].length];
     }
   }
@@ -68,7 +71,7 @@ const HEARD = `(() => {
 // `page` has value() and until(), which ask it.
 export async function listen(page, blocks) {
   await page.value('tapped.isKept = true');
-  await page.value('(() => { for (const end = Date.now() + 250; Date.now() < end;); })()');
+  await page.value('(() => { for (const end = Date.now() + 120; Date.now() < end;); })()');
   await page.until(`tapped.blocks.length >= ${blocks}`);
   await page.value('tapped.isKept = false');
   return page.value(HEARD);
