@@ -4,8 +4,9 @@
     pins.py LPF LPF_OF_MAKER PCF PCF_OF_MAKER
 
 Each pin of LPF must be where the maker's file has the one of that name, but fire1, which is its
-btn[1]; and with the same settings and frequency, if LPF has any. Each pin of PCF must be where the
-maker's file has the one that NAMES tells. Prints how many there are, or what differs (status 1)."""
+btn[1], and must have all that the maker's file says of it: its IOBUF and its frequency. What LPF
+says of the whole chip must be the maker's, too. Each pin of PCF must be where the maker's file has
+the one that NAMES tells. Prints how many there are, or what differs (status 1)."""
 
 import re
 import sys
@@ -25,7 +26,8 @@ def read_lpf(path):
     """By the kind of line and the name what it says."""
     found = {}
     for line in lines_of(path):
-        match = re.fullmatch(r'(LOCATE COMP|IOBUF PORT|FREQUENCY PORT) "(\S+)" (.*);', line)
+        match = re.fullmatch(
+            r'(LOCATE COMP|IOBUF PORT|FREQUENCY PORT|SYSCONFIG) (?:"(\S+)" )?(.*);', line)
         if match:
             found[match[1], match[2]] = match[3].split()
     return found
@@ -40,9 +42,12 @@ def read_pcf(path):
 
 def main(lpf, maker_lpf, pcf, maker_pcf):
     own, maker = read_lpf(lpf), read_lpf(maker_lpf)
-    wrong = [f"{kind} {name}: {said}, of the maker {maker.get((kind, name))}"
-             for (kind, name), said in own.items()
-             if maker.get((kind, name.replace("fire1", "btn[1]"))) != said]
+    named = {name: (name or "").replace("fire1", "btn[1]") or None for _, name in own}
+    wanted = {(kind, name): said for name, called in named.items()
+              for (kind, maker_name), said in maker.items() if maker_name == called}
+    wrong = [f"{kind} {name}: {own.get((kind, name))}, of the maker {wanted.get((kind, name))}"
+             for kind, name in own | wanted
+             if own.get((kind, name)) != wanted.get((kind, name))]
     own_pcf, maker = read_pcf(pcf), read_pcf(maker_pcf)
     wrong += [f"{name}: {pin}, of the maker {maker.get(NAMES.get(name))}"
               for name, pin in own_pcf.items() if maker.get(NAMES.get(name)) != pin]
