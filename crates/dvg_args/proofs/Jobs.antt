@@ -170,8 +170,11 @@ has_names name differs = (
               (
                 inl (inr (inr (inr (inr (inl refl))))),
                 (
-                  inl (inr (inr (inr (inr (inr (inr (inr (inr refl)))))))),
-                  (inr (not_met name _ refl differs), tt),
+                  inl (inr (inr (inr (inr (inr (inr (inr (inr (inl refl))))))))),
+                  (
+                    inl (inr (inr (inr (inr (inr (inr (inr (inr (inr refl))))))))),
+                    (inr (not_met name _ refl differs), tt),
+                  ),
                 ),
               ),
             ),

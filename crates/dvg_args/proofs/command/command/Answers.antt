@@ -17,5 +17,5 @@ returns-clause-app c =
     let render = same c.in_ok-with_render.ensures.app torn c.in_ok-render_command.ensures.app in
     let lay = same c.in_ok-with_lay.ensures.app render c.in_ok-lay_command.ensures.app in
     let explain = same c.in_ok-with_explain.ensures.app lay c.helped-explain.ensures.app in
-    IfOk-weaker c.with_part-10.result (λ r. app_of r ≡ added (app_of c.in_ok-with_explain.with_explain) (app_of c.in_ok-game_command.ok)) _
+    IfOk-weaker c.with_part-10.result (λ r. app_of r ≡ added (app_of c.in_ok-with_explain.with_explain) (app_of c.in_ok-game_command.field-0)) _
     (λ r e. same e explain c.in_ok-game_command.ensures.app) c.with_part-10.ensures.app
