@@ -158,7 +158,10 @@ pub(crate) fn tell_entry<A: Allocator>(out: &mut Text<A>, i: &Instruction) -> fm
     if to == COPY {
         return write!(out, "dvg_copy isn't proved: put its words by dvg_put");
     }
-    write!(out, "it goes to {to:04X}, which is no routine that is proved")
+    write!(
+        out,
+        "it goes to {to:04X}, which is no routine that is proved"
+    )
 }
 
 /// Tells that the NMI calls a routine of the driver.

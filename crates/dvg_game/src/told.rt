@@ -33,7 +33,8 @@ impl<A: Allocator> Told<A> {
         match self.verdict {
             Verdict::Keeps(_) => b"no run of these bytes tears a picture\n",
             Verdict::Unseen(_, _) => {
-                b"keeps to the rules, but not all that it offers and puts is seen: it may tear a picture\n"
+                b"keeps to the rules, but not all that it offers and puts is seen: \
+                it may tear a picture\n"
             }
             Verdict::Refused(_) => b"refused: ",
         }

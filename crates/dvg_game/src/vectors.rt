@@ -44,7 +44,10 @@ pub(crate) fn tell_boot<A: Allocator>(
         }
         _ => {}
     }
-    let is_nmi = matches!(program.kind(at), Kind::Finish | Kind::Push | Kind::PushFlags);
+    let is_nmi = matches!(
+        program.kind(at),
+        Kind::Finish | Kind::Push | Kind::PushFlags
+    );
     write!(
         out,
         "a reset begins with LDX #$FF, TXS, in 32 instructions; before it come loads and stores \

@@ -165,7 +165,10 @@ pub(crate) fn tell_entry<A: Allocator>(out: &mut Text<A>, i: &Instruction) -> fm
     if to == COPY {
         return write!(out, "dvg_copy isn't proved: put its words by dvg_put");
     }
-    write!(out, "it goes to {to:04X}, which is no routine that is proved")
+    write!(
+        out,
+        "it goes to {to:04X}, which is no routine that is proved"
+    )
 }
 
 /// Tells that the NMI calls a routine of the driver.
@@ -1912,7 +1915,8 @@ impl<A: Allocator> Told<A> {
         match self.verdict {
             Verdict::Keeps(_) => b"no run of these bytes tears a picture\n",
             Verdict::Unseen(_, _) => {
-                b"keeps to the rules, but not all that it offers and puts is seen: it may tear a picture\n"
+                b"keeps to the rules, but not all that it offers and puts is seen: \
+                it may tear a picture\n"
             }
             Verdict::Refused(_) => b"refused: ",
         }
@@ -2047,7 +2051,10 @@ pub(crate) fn tell_boot<A: Allocator>(
         }
         _ => {}
     }
-    let is_nmi = matches!(program.kind(at), Kind::Finish | Kind::Push | Kind::PushFlags);
+    let is_nmi = matches!(
+        program.kind(at),
+        Kind::Finish | Kind::Push | Kind::PushFlags
+    );
     write!(
         out,
         "a reset begins with LDX #$FF, TXS, in 32 instructions; before it come loads and stores \
