@@ -1,8 +1,8 @@
 //! Stores that undo `dvg_reset`.
 use crate::instruction::Instruction;
-use crate::program::Program;
+use crate::program::{Program, Step};
 use crate::search::Search;
-use dvg_game_check::{FIRST, Kind, PLACES, Step, Test, kind_of, reached};
+use dvg_game_check::{FIRST, Kind, PLACES, Test, kind_of, reached};
 use std::alloc::{AllocError, Allocator};
 
 /// The address of `dvg_reset`.

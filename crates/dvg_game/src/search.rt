@@ -1,6 +1,6 @@
 //! Which instructions of a program lead where.
-use crate::program::Program;
-use dvg_game_check::{FIRST, PLACES, Step};
+use crate::program::{Program, Step};
+use dvg_game_check::{FIRST, PLACES};
 use std::alloc::{AllocError, Allocator};
 
 /// Places, each with its mark, and those from which the search still has to go on.

@@ -1,13 +1,13 @@
 //! Makes notes of what a program brings. Nothing is promised of them but how many there are: the
 //! check refuses what is wrong.
-ghost use Rattle.std.specs.Prelude.{◌≡◌, ◌<◌, IfOk, length};
+ghost use Rattle.std.specs.Prelude.{◌≡◌, ◌+◌, ◌<◌, ◌≤◌, IfOk, length};
 
 use crate::follow::{FIRST, PLACES};
 use crate::kind::{Kind, kind_of};
 use crate::known::{FAR, contains, known_at, value};
-use crate::maker::{byte_or_zero, filled, number_of, step_at, word_or_zero};
 use crate::note::Note;
-use crate::rules::BYTES;
+use crate::rules::{BYTES, byte_at, word_at};
+use crate::work::{filled, length_of, number_of, target_of};
 use std::alloc::{AllocError, Allocator};
 
 /// More tables, or more words, than any program has.
@@ -38,10 +38,12 @@ fn is_noted(notes: &[Option<Note>], at: u32) -> bool {
 
 // Returns whether a JSR or a JMP there brings something to the driver.
 fn brings(rom: &[u8], at: u32) -> bool
-    requires { at < 65536 }
+    requires bytes { length rom.now ≡ BYTES }
+    requires first { FIRST ≤ at }
+    requires last { at < FIRST + PLACES }
 {
-    let word = word_or_zero(rom, at + 1);
-    match kind_of(byte_or_zero(rom, at)) {
+    let word = word_at(rom, at + 1);
+    match kind_of(byte_at(rom, at)) {
         Kind::Jump | Kind::Call => word == 0x68FE || word == 0x6957,
         _ => false,
     }
@@ -53,7 +55,9 @@ fn befores<A: Allocator>(
     rom: &[u8],
     notes: &[Option<Note>],
     start: u32,
-) -> Result<Vec<Before, A>, AllocError> {
+) -> Result<Vec<Before, A>, AllocError>
+    requires { length rom.now ≡ BYTES }
+{
     let none = Before {
         count: 0,
         size: 0,
@@ -61,24 +65,22 @@ fn befores<A: Allocator>(
     };
     let mut places = filled(alloc, none)?;
     enter(&mut places, start);
-    enter(&mut places, u32::from(word_or_zero(rom, 0x7FFA)));
-    enter(&mut places, u32::from(word_or_zero(rom, 0x7FFC)));
+    enter(&mut places, u32::from(word_at(rom, 0x7FFA)));
+    enter(&mut places, u32::from(word_at(rom, 0x7FFC)));
     for i in 0..PLACES {
         let at = FIRST + i;
         if is_noted(notes, at) {
-            let step = step_at(rom, at);
-            if let Some(to) = step.to {
+            if let Some(to) = target_of(rom, at) {
                 enter(&mut places, to);
             }
-            if let Some(to) = step.calls {
-                enter(&mut places, to);
-            }
-            if let Some(next) = step.next {
-                if matches!(step.kind, Kind::Call) {
-                    enter(&mut places, next);
-                } else if let Some(place) = places.get_mut(number_of(next)) {
+            let kind = kind_of(byte_at(rom, at));
+            let size = length_of(kind);
+            if matches!(kind, Kind::Call) {
+                enter(&mut places, at + 3);
+            } else if let Some(place) = places.get_mut(number_of(at + size)) {
+                if size != 0 {
                     place.count = place.count.saturating_add(1);
-                    place.size = next.wrapping_sub(at);
+                    place.size = size;
                 }
             }
         }
@@ -94,6 +96,7 @@ pub fn ways<A: Allocator + Copy>(
     notes: &[Option<Note>],
     start: u32,
 ) -> Result<Vec<u8, A>, AllocError>
+    requires { length rom.now ≡ BYTES }
     ensures { IfOk result (λ ways. length ways.items ≡ PLACES) }
 {
     let places = befores(alloc, rom, notes, start)?;
@@ -139,7 +142,7 @@ pub fn brought_to<A: Allocator>(
     let mut list = Vec::new(alloc);
     for i in 0..PLACES {
         let at = FIRST + i;
-        if is_noted(notes, at) && brings(rom, at) && word_or_zero(rom, at + 1) == entry {
+        if is_noted(notes, at) && brings(rom, at) && word_at(rom, at + 1) == entry {
             let fact = known_at(rom, ways, FAR, at);
             for y in 0..fact.most {
                 if let (Some(a), Some(x)) = (value(rom, fact.a, y), value(rom, fact.x, y)) {

@@ -14,7 +14,7 @@ pub enum Level {
 }
 
 /// What a byte is known to be: anything, or what A, X or Y was where the NMI came.
-#[derive(Clone, Copy, Debug)]
+#[derive(Clone, Copy, Debug, PartialEq, Eq)]
 pub enum Slot {
     Any,
     Was(Register),
@@ -32,7 +32,7 @@ impl Default for Slot {
 }
 
 /// What A, X and Y hold.
-#[derive(Clone, Copy, Debug)]
+#[derive(Clone, Copy, Debug, PartialEq, Eq)]
 pub struct Held {
     pub a: Slot,
     pub x: Slot,

@@ -9,7 +9,6 @@ ghost use Rattle.dvg_game_words.specs.Tables.{NamesRom};
 ghost use Rattle.dvg_frame.specs.Layout.{size};
 ghost use Rattle.dvg_frame.specs.Ops.{IsDraft};
 
-use crate::maker::word_or_zero;
 use crate::rules::{BYTES, byte_at, word_at};
 use dvg_code::{Code, Instr, decode};
 use dvg_frame::{Draft, Frame, Op, OpKind, check};
@@ -94,6 +93,18 @@ pub fn bad_word<A: Allocator>(words: &[u16], rom: &Rom<A>) -> Option<u16>
         }
     }
     None
+}
+
+// Returns a byte of the program, or 0.
+fn byte_or_zero(rom: &[u8], a: u32) -> u8 {
+    match rom.get(a.wrapping_sub(0x6800) as usize) {
+        Some(byte) => *byte,
+        None => 0,
+    }
+}
+
+fn word_or_zero(rom: &[u8], a: u32) -> u16 {
+    u16::from(byte_or_zero(rom, a)) + 256 * u16::from(byte_or_zero(rom, a.wrapping_add(1)))
 }
 
 // Returns the draft whose table of so many words seems to be at an address. Nothing is promised of

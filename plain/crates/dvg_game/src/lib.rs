@@ -477,9 +477,9 @@ pub(crate) fn bringer(program: &Program<'_>, ways: &[u8], entry: u16, word: u16)
 mod early {
 //! Stores that undo `dvg_reset`.
 use crate::instruction::Instruction;
-use crate::program::Program;
+use crate::program::{Program, Step};
 use crate::search::Search;
-use dvg_game_check::{FIRST, Kind, PLACES, Step, Test, kind_of, reached};
+use dvg_game_check::{FIRST, Kind, PLACES, Test, kind_of, reached};
 use std::alloc::{AllocError, Allocator};
 
 /// The address of `dvg_reset`.
@@ -1322,7 +1322,9 @@ pub(crate) fn routine(a: u16) -> &'static str {
 }
 mod program {
 //! A program that is told of.
-use dvg_game_check::{BYTES, FIRST, Kind, Note, Step, boot, kind_of, step_at};
+use dvg_game_check::{
+    BYTES, FIRST, Kind, Note, PLACES, boot, is_driver, kind_of, length_of, target_of,
+};
 
 /// Where the program's bytes begin.
 const ROM: u32 = 0x6800;
@@ -1332,6 +1334,18 @@ pub(crate) const NMI_VECTOR: u32 = 0x7FFA;
 
 /// The address of the reset's vector.
 pub(crate) const RESET_VECTOR: u32 = 0x7FFC;
+
+/// Where an instruction leads.
+#[derive(Clone, Copy)]
+pub(crate) struct Step {
+    pub kind: Kind,
+    /// Behind itself, and where it branches or jumps to.
+    pub next: Option<u32>,
+    pub to: Option<u32>,
+    /// The subroutine that it calls, or the routine of the driver that it calls or jumps to.
+    pub calls: Option<u32>,
+    pub drives: Option<u16>,
+}
 
 /// The bytes of a program from 6800 to 7FFF, its notes, and where it starts behind TXS.
 #[derive(Clone, Copy)]
@@ -1388,12 +1402,35 @@ impl<'a> Program<'a> {
         kind_of(self.byte(at))
     }
 
+    // Returns the routine of the driver that a JSR or a JMP at a place leads to.
+    fn driven(&self, at: u32, kind: Kind) -> Option<u16> {
+        let word = self.word(at.wrapping_add(1));
+        match kind {
+            Kind::Call if is_driver(word) => Some(word),
+            Kind::Jump if is_driver(word) && word != self.word(RESET_VECTOR) => Some(word),
+            _ => None,
+        }
+    }
+
     /// Returns where the instruction at an address leads, if code is there.
     pub(crate) fn step(&self, at: u32) -> Option<Step> {
-        if 65536 <= at || self.note(at).is_none() {
+        if self.rom.len() != BYTES || at < FIRST || FIRST + PLACES <= at {
             return None;
         }
-        Some(step_at(self.rom, at))
+        if self.note(at).is_none() {
+            return None;
+        }
+        let kind = self.kind(at);
+        let target = target_of(self.rom, at);
+        let is_call = matches!(kind, Kind::Call);
+        let length = length_of(kind);
+        Some(Step {
+            kind,
+            next: if length == 0 { None } else { Some(at + length) },
+            to: if is_call { None } else { target },
+            calls: if is_call { target } else { None },
+            drives: self.driven(at, kind),
+        })
     }
 }
 }
@@ -1502,8 +1539,8 @@ mod search {
 //! Which instructions of a program lead where.
 use std::prelude::*;
 
-use crate::program::Program;
-use dvg_game_check::{FIRST, PLACES, Step};
+use crate::program::{Program, Step};
+use dvg_game_check::{FIRST, PLACES};
 use std::alloc::{AllocError, Allocator};
 
 /// Places, each with its mark, and those from which the search still has to go on.

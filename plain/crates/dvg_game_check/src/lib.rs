@@ -220,8 +220,9 @@ use std::prelude::*;
 use crate::follow::{FIRST, PLACES};
 use crate::kind::{Kind, kind_of};
 use crate::known::{FAR, contains, known_at, value};
-use crate::maker::{byte_or_zero, filled, number_of, step_at, word_or_zero};
 use crate::note::Note;
+use crate::rules::{byte_at, word_at};
+use crate::work::{filled, length_of, number_of, target_of};
 use std::alloc::{AllocError, Allocator};
 
 /// More tables, or more words, than any program has.
@@ -252,8 +253,8 @@ fn is_noted(notes: &[Option<Note>], at: u32) -> bool {
 
 // Returns whether a JSR or a JMP there brings something to the driver.
 fn brings(rom: &[u8], at: u32) -> bool {
-    let word = word_or_zero(rom, at + 1);
-    match kind_of(byte_or_zero(rom, at)) {
+    let word = word_at(rom, at + 1);
+    match kind_of(byte_at(rom, at)) {
         Kind::Jump | Kind::Call => word == 0x68FE || word == 0x6957,
         _ => false,
     }
@@ -273,24 +274,22 @@ fn befores<A: Allocator>(
     };
     let mut places = filled(alloc, none)?;
     enter(&mut places, start);
-    enter(&mut places, u32::from(word_or_zero(rom, 0x7FFA)));
-    enter(&mut places, u32::from(word_or_zero(rom, 0x7FFC)));
+    enter(&mut places, u32::from(word_at(rom, 0x7FFA)));
+    enter(&mut places, u32::from(word_at(rom, 0x7FFC)));
     for i in 0..PLACES {
         let at = FIRST + i;
         if is_noted(notes, at) {
-            let step = step_at(rom, at);
-            if let Some(to) = step.to {
+            if let Some(to) = target_of(rom, at) {
                 enter(&mut places, to);
             }
-            if let Some(to) = step.calls {
-                enter(&mut places, to);
-            }
-            if let Some(next) = step.next {
-                if matches!(step.kind, Kind::Call) {
-                    enter(&mut places, next);
-                } else if let Some(place) = places.get_mut(number_of(next)) {
+            let kind = kind_of(byte_at(rom, at));
+            let size = length_of(kind);
+            if matches!(kind, Kind::Call) {
+                enter(&mut places, at + 3);
+            } else if let Some(place) = places.get_mut(number_of(at + size)) {
+                if size != 0 {
                     place.count = place.count.saturating_add(1);
-                    place.size = next.wrapping_sub(at);
+                    place.size = size;
                 }
             }
         }
@@ -346,7 +345,7 @@ pub fn brought_to<A: Allocator>(
     let mut list = Vec::new(alloc);
     for i in 0..PLACES {
         let at = FIRST + i;
-        if is_noted(notes, at) && brings(rom, at) && word_or_zero(rom, at + 1) == entry {
+        if is_noted(notes, at) && brings(rom, at) && word_at(rom, at + 1) == entry {
             let fact = known_at(rom, ways, FAR, at);
             for y in 0..fact.most {
                 if let (Some(a), Some(x)) = (value(rom, fact.a, y), value(rom, fact.x, y)) {
@@ -976,479 +975,181 @@ pub fn brings_gap(
 }
 }
 mod maker {
-//! Makes notes of a program. Nothing is promised of them but that there is one for each place: the
-//! check refuses what is wrong.
+//! Makes notes of a program.
 use std::prelude::*;
 
-use crate::follow::{FIRST, PLACES, holding, of_held, set};
-use crate::kind::{Kind, Register, kind_of, size};
-use crate::note::{Held, Level, Note, SLOTS, Slot};
-use crate::reach::{Test, reached};
-use crate::rules::{UNCHANGED, blank_after, is_driver};
-use arrayvec::ArrayVec;
+use crate::follow::{FIRST, PLACES, same_level};
+use crate::kind::kind_of;
+use crate::note::{Level, Note};
+use crate::rules::{byte_at, word_at};
+use crate::state::{State, after, at_nmi, at_start, is_same, joined, note_of, state_at};
+use crate::step::{Needs, needs_of, step_at};
+use crate::work::{Callers, Todo, Work, filled, length_of};
 use std::alloc::{AllocError, Allocator};
 
-/// More room, or more instructions of the NMI, than any may have.
-const CAP: u16 = 900;
+/// One more byte than the program may push, and one more instruction than the NMI may do.
+const TOO_MUCH_ROOM: u16 = 224;
 
-/// How often something is gone over at most: more than any program that is accepted takes.
-const ROUNDS: u32 = 2000;
-
-const STEPS: u32 = 100_000;
-
-/// What is known of a place while notes are made.
-#[derive(Clone, Copy)]
-struct State {
-    level: Level,
-    depth: u16,
-    held: Held,
-    /// Of the NMI: the bytes that were pushed last, the newest first.
-    slots: [Slot; SLOTS],
-    awake: bool,
-    blank: bool,
-    /// The place where its subroutine begins.
-    owner: u32,
-}
-
-/// What an instruction does.
-#[derive(Clone, Copy)]
-pub struct Step {
-    pub kind: Kind,
-    /// Where it goes on behind itself, and where it branches or jumps to.
-    pub next: Option<u32>,
-    pub to: Option<u32>,
-    /// The subroutine that it calls, or the routine of the driver.
-    pub calls: Option<u32>,
-    pub drives: Option<u16>,
-    /// It ends a subroutine.
-    pub returns: bool,
-}
-
-pub fn byte_or_zero(rom: &[u8], a: u32) -> u8 {
-    match rom.get(a.wrapping_sub(0x6800) as usize) {
-        Some(byte) => *byte,
-        None => 0,
-    }
-}
-
-pub fn word_or_zero(rom: &[u8], a: u32) -> u16 {
-    u16::from(byte_or_zero(rom, a)) + 256 * u16::from(byte_or_zero(rom, a.wrapping_add(1)))
-}
-
-// The number of a place, or one that no place has.
-pub fn number_of(at: u32) -> usize {
-    at.wrapping_sub(FIRST) as usize
-}
-
-pub fn step_at(rom: &[u8], at: u32) -> Step {
-    let kind = kind_of(byte_or_zero(rom, at));
-    let low = byte_or_zero(rom, at + 1);
-    let word = word_or_zero(rom, at + 1);
-    let mut step = Step {
-        kind,
-        next: None,
-        to: None,
-        calls: None,
-        drives: None,
-        returns: false,
-    };
-    match kind {
-        Kind::Quiet(_, bytes) => step.next = Some(at + u32::from(bytes)),
-        Kind::Reads(_, place) | Kind::Stores(place) => step.next = Some(
-            at + u32::from(size(place)),
-        ),
-        Kind::Transfer(_, _) | Kind::Push | Kind::PushFlags | Kind::Pull | Kind::PullFlags => {
-            step.next = Some(at + 1);
-        }
-        Kind::Branch => {
-            let back = if 128 <= low { 65280 } else { 0 };
-            step.to = Some((at + 2 + u32::from(low) + back) % 65536);
-            step.next = Some(at + 2);
-        }
-        Kind::Jump => {
-            if word != word_or_zero(rom, 0x7FFC) {
-                if is_driver(word) {
-                    step.drives = Some(word);
-                    step.returns = true;
-                } else {
-                    step.to = Some(u32::from(word));
-                }
-            }
-        }
-        Kind::Call => {
-            step.next = Some(at + 3);
-            if is_driver(word) {
-                step.drives = Some(word);
-            } else {
-                step.calls = Some(u32::from(word));
-            }
-        }
-        Kind::Return => step.returns = true,
-        Kind::Finish | Kind::Wild => {}
-    }
-    step
-}
-
-fn same_slot(one: Slot, other: Slot) -> bool {
-    match one {
-        Slot::Any => matches!(other, Slot::Any),
-        Slot::Was(register) => match other {
-            Slot::Any => false,
-            Slot::Was(same) => register == same,
-        },
-    }
-}
-
-fn joined_slot(one: Slot, other: Slot) -> Slot {
-    if same_slot(one, other) {
-        one
-    } else {
-        Slot::Any
-    }
-}
-
-fn pushed(slots: [Slot; SLOTS], slot: Slot) -> [Slot; SLOTS] {
-    let mut new = [Slot::Any; SLOTS];
-    new[0] = slot;
-    for i in 1..SLOTS {
-        new[i] = slots[i - 1];
-    }
-    new
-}
-
-fn pulled(slots: [Slot; SLOTS]) -> [Slot; SLOTS] {
-    let mut new = [Slot::Any; SLOTS];
-    for i in 1..SLOTS {
-        new[i - 1] = slots[i];
-    }
-    new
-}
-
-// What holds behind an instruction that isn't a call or a jump.
-fn beyond(rom: &[u8], at: u32, kind: Kind, state: State) -> State {
-    let mut new = state;
-    match kind {
-        Kind::Quiet(sets, _) | Kind::Reads(sets, _) => new.held = set(sets, state.held),
-        Kind::Transfer(from, to) => {
-            new.held = holding(to, of_held(from, state.held), state.held);
-        }
-        Kind::Stores(place) => {
-            let low = byte_or_zero(rom, at.wrapping_add(1));
-            let word = word_or_zero(rom, at.wrapping_add(1));
-            new.awake = state.awake && reached(place, low, word, Test::NotOwn);
-        }
-        Kind::Push => {
-            new.depth = state.depth.saturating_add(1);
-            new.slots = pushed(state.slots, state.held.a);
-        }
-        Kind::PushFlags => {
-            new.depth = state.depth.saturating_add(1);
-            new.slots = pushed(state.slots, Slot::Any);
-        }
-        Kind::Pull => {
-            new.depth = state.depth.saturating_sub(1);
-            new.held = holding(Register::A, state.slots[0], state.held);
-            new.slots = pulled(state.slots);
-        }
-        Kind::PullFlags => {
-            new.depth = state.depth.saturating_sub(1);
-            new.slots = pulled(state.slots);
-        }
-        _ => {}
-    }
-    new
-}
-
-fn state_at(states: &[Option<State>], at: u32) -> Option<State> {
-    match states.get(number_of(at)) {
-        Some(state) => *state,
-        None => None,
-    }
-}
-
-fn ends_at(ends: &[bool], at: u32) -> bool {
-    match ends.get(number_of(at)) {
-        Some(blank) => *blank,
-        None => false,
-    }
-}
-
-fn put_end(ends: &mut [bool], at: u32) {
-    if let Some(end) = ends.get_mut(number_of(at)) {
-        *end = true;
-    }
-}
+const TOO_MUCH_FUEL: u16 = 801;
 
 // A way leads to a place, with this known.
-fn go<A: Allocator>(
-    states: &mut [Option<State>],
-    work: &mut Vec<u32, A>,
-    at: u32,
-    new: State,
-) -> Result<(), AllocError> {
-    if let Some(known) = states.get_mut(number_of(at)) {
-        match *known {
-            None => {
-                *known = Some(new);
-                work.push(at)?;
+fn go<A: Allocator + Copy>(states: &mut [Option<State>], todo: &mut Todo<A>, to: u32, new: State) {
+    if to < FIRST || FIRST + PLACES <= to {
+        return;
+    }
+    let i = (to - FIRST) as usize;
+    match states[i] {
+        None => {
+            states[i] = Some(begun(new));
+            todo.ahead.push(to);
+            todo.back.push(to);
+        }
+        Some(old) => {
+            if !same_level(old.level, new.level) || old.depth != new.depth {
+                return;
             }
-            Some(old) => {
-                let held = Held {
-                    a: joined_slot(old.held.a, new.held.a),
-                    x: joined_slot(old.held.x, new.held.x),
-                    y: joined_slot(old.held.y, new.held.y),
-                };
-                let same = same_slot(held.a, old.held.a)
-                    && same_slot(held.x, old.held.x)
-                    && same_slot(held.y, old.held.y);
-                let awake = old.awake && new.awake;
-                let blank = old.blank || new.blank;
-                if !same || awake != old.awake || blank != old.blank {
-                    let mut joined = old;
-                    joined.held = held;
-                    joined.awake = awake;
-                    joined.blank = blank;
-                    *known = Some(joined);
-                    work.push(at)?;
-                }
+            let both = joined(old, new);
+            if !is_same(old, both) {
+                states[i] = Some(both);
+                todo.ahead.push(to);
+                todo.back.push(to);
             }
         }
     }
-    Ok(())
 }
 
-// Follows an instruction.
-fn follow<A: Allocator>(
+// Returns a state of which no needs are known.
+fn begun(state: State) -> State {
+    let mut new = state;
+    new.room = 0;
+    new.fuel = 0;
+    new.ends = false;
+    new
+}
+
+// Returns a state that has these needs, too.
+fn raised(state: State, needs: Needs) -> State {
+    let mut new = state;
+    new.room = state.room.max(needs.room.min(TOO_MUCH_ROOM));
+    if same_level(state.level, Level::Nmi) {
+        new.fuel = state.fuel.max(needs.fuel.min(TOO_MUCH_FUEL));
+    }
+    new.ends = state.ends || needs.ends;
+    new
+}
+
+// Raises what a place needs; whether anything changed.
+fn raise(states: &mut [Option<State>], at: u32, needs: Needs) -> bool {
+    let i = (at - FIRST) as usize;
+    let Some(old) = states[i] else {
+        return false;
+    };
+    let new = raised(old, needs);
+    if new.room == old.room && new.fuel == old.fuel && new.ends == old.ends {
+        return false;
+    }
+    states[i] = Some(new);
+    true
+}
+
+// Puts a place into the work if anything is found of it.
+fn wake_at<A: Allocator + Copy>(states: &[Option<State>], work: &mut Work<A>, at: u32) {
+    if state_at(states, at).is_some() {
+        work.push(at);
+    }
+}
+
+// Has the needs of those counted again that lead to a place, and the ways of those that call it
+// followed.
+fn wake<A: Allocator + Copy>(
     rom: &[u8],
-    states: &mut [Option<State>],
-    ends: &mut [bool],
-    work: &mut Vec<u32, A>,
+    states: &[Option<State>],
+    callers: &Callers<A>,
+    todo: &mut Todo<A>,
     at: u32,
-) -> Result<(), AllocError> {
-    let Some(state) = state_at(states, at) else {
-        return Ok(());
-    };
-    let step = step_at(rom, at);
-    let blank = match step.drives {
-        Some(entry) => blank_after(entry, state.blank),
-        None => state.blank,
-    };
-    if step.returns {
-        if blank {
-            put_end(ends, state.owner);
-        }
-        return Ok(());
-    }
-    if let Some(to) = step.to {
-        go(states, work, to, state)?;
-    }
-    if let Some(next) = step.next {
-        let mut new = beyond(rom, at, step.kind, state);
-        new.blank = blank;
-        if let Some(entry) = step.drives {
-            new.awake = state.awake || entry == 0x6800;
-        }
-        if let Some(called) = step.calls {
-            let mut begun = state;
-            begun.level = Level::Sub;
-            begun.depth = 0;
-            begun.slots = [Slot::Any; SLOTS];
-            begun.owner = called;
-            go(states, work, called, begun)?;
-            new.blank = ends_at(ends, called);
-        }
-        if state.depth < 256 {
-            go(states, work, next, new)?;
+) {
+    for back in 1..4u32 {
+        if length_of(kind_of(byte_at(rom, at - back))) == back {
+            wake_at(states, &mut todo.back, at - back);
         }
     }
-    Ok(())
-}
-
-// Whether a subroutine that leads into another one was found to end as that one does.
-fn spread(rom: &[u8], states: &[Option<State>], ends: &mut [bool]) -> bool {
-    let mut changed = false;
-    for i in 0..PLACES {
-        let at = FIRST + i;
-        if let Some(state) = state_at(states, at) {
-            let step = step_at(rom, at);
-            let mut blank = false;
-            if let Some(to) = step.to {
-                if let Some(next) = state_at(states, to) {
-                    blank = ends_at(ends, next.owner);
-                }
-            }
-            if let Some(to) = step.next {
-                if let Some(next) = state_at(states, to) {
-                    blank = blank || ends_at(ends, next.owner);
-                }
-            }
-            if blank && !ends_at(ends, state.owner) {
-                put_end(ends, state.owner);
-                changed = true;
-            }
-        }
-    }
-    changed
-}
-
-fn count_of(ends: &[bool]) -> u32 {
-    let mut count: u32 = 0;
-    for end in ends {
-        if *end {
-            count = count.saturating_add(1);
-        }
-    }
-    count
-}
-
-pub fn filled<A: Allocator, T: Copy>(alloc: A, value: T) -> Result<Vec<T, A>, AllocError> {
-    let mut new = Vec::new(alloc);
+    let mut from = callers.first_of(at);
     for _ in 0..PLACES {
-        new.push(value)?;
+        if from == 0 {
+            break;
+        }
+        wake_at(states, &mut todo.back, from);
+        wake_at(states, &mut todo.ahead, from);
+        from = callers.next_of(from);
     }
-    Ok(new)
 }
 
-// All that is reached from the start and the NMI's vector, where these subroutines end blank.
-fn flow<A: Allocator + Copy>(
-    alloc: A,
+// Follows the ways of the instruction at a place.
+fn follow<A: Allocator + Copy>(
     rom: &[u8],
-    start: u32,
-    ends: &mut [bool],
-) -> Result<Vec<Option<State>, A>, AllocError> {
-    let mut states: Vec<Option<State>, A> = filled(alloc, None)?;
-    let mut work = Vec::new(alloc);
-    let nmi = u32::from(word_or_zero(rom, 0x7FFA));
-    let slots = [Slot::Any; SLOTS];
-    let any = Held {
-        a: Slot::Any,
-        x: Slot::Any,
-        y: Slot::Any,
+    states: &mut [Option<State>],
+    todo: &mut Todo<A>,
+    at: u32,
+) {
+    let Some(state) = state_at(states, at) else {
+        return;
     };
-    let at_nmi = State {
-        level: Level::Nmi,
-        depth: 0,
-        held: UNCHANGED,
-        slots,
-        awake: false,
-        blank: false,
-        owner: nmi,
+    let step = step_at(rom, states, at, state);
+    if let Some(one) = step.next {
+        go(states, todo, one.to, after(state, one.change));
+    }
+    if let Some(one) = step.to {
+        go(states, todo, one.to, after(state, one.change));
+    }
+}
+
+// Counts what the instruction at a place needs; whether that is more than was known.
+fn count(rom: &[u8], states: &mut [Option<State>], at: u32) -> bool {
+    let Some(state) = state_at(states, at) else {
+        return false;
     };
-    let at_start = State {
-        level: Level::Main,
-        depth: 0,
-        held: any,
-        slots,
-        awake: false,
-        blank: false,
-        owner: start,
+    let step = step_at(rom, states, at, state);
+    let needs = needs_of(states, step);
+    raise(states, at, needs)
+}
+
+// Does what is to be done next; whether there was anything.
+fn work_on<A: Allocator + Copy>(
+    rom: &[u8],
+    states: &mut [Option<State>],
+    callers: &Callers<A>,
+    todo: &mut Todo<A>,
+) -> bool {
+    if let Some(at) = todo.ahead.pop() {
+        if FIRST <= at && at < FIRST + PLACES {
+            follow(rom, states, todo, at);
+        }
+        return true;
+    }
+    let Some(at) = todo.back.pop() else {
+        return false;
     };
-    go(&mut states, &mut work, nmi, at_nmi)?;
-    go(&mut states, &mut work, start, at_start)?;
-    for _ in 0..STEPS {
-        let Some(at) = work.pop() else {
-            break;
-        };
-        if at < 65536 {
-            follow(rom, &mut states, ends, &mut work, at)?;
+    if FIRST <= at && at < FIRST + PLACES {
+        if count(rom, states, at) {
+            wake(rom, states, callers, todo, at);
         }
     }
-    for _ in 0..ROUNDS {
-        if !spread(rom, &states, ends) {
-            break;
-        }
-    }
-    Ok(states)
+    true
 }
 
-fn count_at(counts: &[u16], at: u32) -> u16 {
-    match counts.get(number_of(at)) {
-        Some(count) => *count,
-        None => 0,
-    }
-}
-
-// How many bytes an instruction may push with what comes after it, where that is known.
-fn room_of(step: Step, room: &[u16]) -> u16 {
-    let mut need = 0;
-    if let Some(to) = step.to {
-        need = count_at(room, to);
-    }
-    if let Some(next) = step.next {
-        let behind = count_at(room, next);
-        let more = match step.kind {
-            Kind::Push | Kind::PushFlags => behind.saturating_add(1),
-            Kind::Pull | Kind::PullFlags => behind.saturating_sub(1),
-            _ => behind,
-        };
-        need = need.max(more);
-    }
-    if step.drives.is_some() {
-        need = need.max(4);
-    }
-    if let Some(called) = step.calls {
-        need = need.max(count_at(room, called).saturating_add(2));
-    }
-    need.min(CAP)
-}
-
-fn fuel_of(step: Step, fuel: &[u16]) -> u16 {
-    let mut need: u16 = 0;
-    if let Some(to) = step.to {
-        need = count_at(fuel, to);
-    }
-    if let Some(next) = step.next {
-        need = need.max(count_at(fuel, next));
-    }
-    need.saturating_add(1).min(CAP)
-}
-
-// Counts the room of each instruction once more, and the fuel; whether anything changed.
-fn recount(rom: &[u8], states: &[Option<State>], room: &mut [u16], fuel: &mut [u16]) -> bool {
-    let mut changed = false;
+// Returns the notes of all places.
+fn notes_of<A: Allocator>(
+    alloc: A,
+    states: &[Option<State>],
+) -> Result<Vec<Option<Note>, A>, AllocError> {
+    let mut notes = Vec::new(alloc);
     for i in 0..PLACES {
-        let at = FIRST + (PLACES - 1 - i);
-        if let Some(state) = state_at(states, at) {
-            let step = step_at(rom, at);
-            let (new_room, mut new_fuel) = (room_of(step, room), 0);
-            if matches!(state.level, Level::Nmi) {
-                new_fuel = fuel_of(step, fuel);
-            }
-            if new_room != count_at(room, at) || new_fuel != count_at(fuel, at) {
-                changed = true;
-            }
-            if let Some(known) = room.get_mut(number_of(at)) {
-                *known = new_room;
-            }
-            if let Some(known) = fuel.get_mut(number_of(at)) {
-                *known = new_fuel;
-            }
+        match states[i as usize] {
+            Some(state) => notes.push(Some(note_of(state)))?,
+            None => notes.push(None)?,
         }
     }
-    changed
-}
-
-// The note of a place.
-fn note_of(state: State, room: u16, fuel: u16, ends: bool) -> Note {
-    let mut slots: ArrayVec<Slot, SLOTS> = ArrayVec::new();
-    if matches!(state.level, Level::Nmi) {
-        for i in 0..SLOTS {
-            if i < usize::from(state.depth) && !slots.is_full() {
-                slots.push(state.slots[i]);
-            }
-        }
-    }
-    Note {
-        level: state.level,
-        depth: state.depth,
-        held: state.held,
-        slots,
-        room,
-        fuel,
-        awake: state.awake,
-        blank: state.blank,
-        ends,
-    }
+    Ok(notes)
 }
 
 /// Returns notes of a program that starts at `start`.
@@ -1457,37 +1158,18 @@ pub fn make<A: Allocator + Copy>(
     rom: &[u8],
     start: u32,
 ) -> Result<Vec<Option<Note>, A>, AllocError> {
-    let mut ends = filled(alloc, false)?;
-    let mut states = flow(alloc, rom, start, &mut ends)?;
-    let mut count = 0;
-    for _ in 0..ROUNDS {
-        let more = count_of(&ends);
-        if more == count {
-            break;
-        }
-        count = more;
-        states = flow(alloc, rom, start, &mut ends)?;
-    }
-    let mut room: Vec<u16, A> = filled(alloc, 0)?;
-    let mut fuel: Vec<u16, A> = filled(alloc, 0)?;
-    for _ in 0..ROUNDS {
-        if !recount(rom, &states, &mut room, &mut fuel) {
+    let callers = Callers::of(alloc, rom)?;
+    let mut todo = Todo::new(alloc)?;
+    let mut states: Vec<Option<State>, A> = filled(alloc, None)?;
+    let nmi = u32::from(word_at(rom, 0x7FFA));
+    go(&mut states, &mut todo, nmi, at_nmi());
+    go(&mut states, &mut todo, start, at_start());
+    for _ in 0..u64::MAX {
+        if !work_on(rom, &mut states, &callers, &mut todo) {
             break;
         }
     }
-    let mut notes = Vec::new(alloc);
-    for i in 0..PLACES {
-        let at = FIRST + i;
-        match state_at(&states, at) {
-            Some(state) => {
-                let ends = ends_at(&ends, state.owner);
-                let note = note_of(state, count_at(&room, at), count_at(&fuel, at), ends);
-                notes.push(Some(note))?;
-            }
-            None => notes.push(None)?,
-        }
-    }
-    Ok(notes)
+    notes_of(alloc, &states)
 }
 }
 mod note {
@@ -1507,7 +1189,7 @@ pub enum Level {
 }
 
 /// What a byte is known to be: anything, or what A, X or Y was where the NMI came.
-#[derive(Clone, Copy, Debug)]
+#[derive(Clone, Copy, Debug, PartialEq, Eq, Hash)]
 pub enum Slot {
     Any,
     Was(Register),
@@ -1520,7 +1202,7 @@ impl Default for Slot {
 }
 
 /// What A, X and Y hold.
-#[derive(Clone, Copy, Debug)]
+#[derive(Clone, Copy, Debug, PartialEq, Eq, Hash)]
 pub struct Held {
     pub a: Slot,
     pub x: Slot,
@@ -1567,7 +1249,6 @@ pub enum Change {
 }
 mod offered {
 //! The check of the tables that a program offers, and of the words that it puts.
-use crate::maker::word_or_zero;
 use crate::rules::{byte_at, word_at};
 use dvg_code::{Code, Instr, decode};
 use dvg_frame::{Draft, Frame, Op, OpKind, check};
@@ -1638,6 +1319,18 @@ pub fn bad_word<A: Allocator>(words: &[u16], rom: &Rom<A>) -> Option<u16> {
         }
     }
     None
+}
+
+// Returns a byte of the program, or 0.
+fn byte_or_zero(rom: &[u8], a: u32) -> u8 {
+    match rom.get(a.wrapping_sub(0x6800) as usize) {
+        Some(byte) => *byte,
+        None => 0,
+    }
+}
+
+fn word_or_zero(rom: &[u8], a: u32) -> u16 {
+    u16::from(byte_or_zero(rom, a)) + 256 * u16::from(byte_or_zero(rom, a.wrapping_add(1)))
 }
 
 // Returns the draft whose table of so many words seems to be at an address. Nothing is promised of
@@ -2660,15 +2353,570 @@ pub fn fine(rom: &[u8], notes: &[Option<Note>], at: u32, now: &Note) -> bool {
     fine_with(kind, notes, low, word, reset, at, now)
 }
 }
+mod state {
+//! What is found of a place while notes are made, and what an instruction makes of it.
+use crate::follow::{FIRST, PLACES, same_level};
+use crate::note::{Change, Held, Level, Note, SLOTS, Slot};
+use crate::rules::UNCHANGED;
+use arrayvec::ArrayVec;
+
+/// What is found of a place.
+#[derive(Clone, Copy)]
+pub struct State {
+    pub level: Level,
+    /// How many bytes were pushed since the level began.
+    pub depth: u16,
+    pub held: Held,
+    /// Of the NMI: the bytes that were pushed, the newest last.
+    pub slots: [Slot; SLOTS],
+    pub room: u16,
+    pub fuel: u16,
+    pub awake: bool,
+    pub blank: bool,
+    pub ends: bool,
+}
+
+/// What holds where a level begins with nothing but what A, X and Y hold.
+fn begins(level: Level, held: Held) -> State {
+    State {
+        level,
+        depth: 0,
+        held,
+        slots: [Slot::Any; SLOTS],
+        room: 0,
+        fuel: 0,
+        awake: false,
+        blank: false,
+        ends: false,
+    }
+}
+
+/// Returns what holds where the program starts.
+pub fn at_start() -> State {
+    let any = Held {
+        a: Slot::Any,
+        x: Slot::Any,
+        y: Slot::Any,
+    };
+    begins(Level::Main, any)
+}
+
+/// Returns what holds where the NMI comes.
+pub fn at_nmi() -> State {
+    begins(Level::Nmi, UNCHANGED)
+}
+
+/// Returns what is found of a place, if anything is.
+#[must_use]
+pub fn state_at(states: &[Option<State>], at: u32) -> Option<State> {
+    if at < FIRST || FIRST + PLACES <= at {
+        return None;
+    }
+    states[(at - FIRST) as usize]
+}
+
+/// Returns the byte that was pushed last.
+pub fn top(state: State) -> Slot {
+    let depth = usize::from(state.depth);
+    if depth == 0 || SLOTS < depth {
+        return Slot::Any;
+    }
+    state.slots[depth - 1]
+}
+
+// Returns what is found behind an instruction that pushes this byte.
+fn pushed(state: State, slot: Slot) -> State {
+    let depth = usize::from(state.depth);
+    let mut new = state;
+    new.depth = state.depth.saturating_add(1);
+    if depth < SLOTS {
+        new.slots[depth] = slot;
+    }
+    new
+}
+
+// Returns what is found behind one that pulls a byte, where A, X and Y hold this.
+fn pulled(state: State, held: Held) -> State {
+    let mut new = state;
+    new.depth = state.depth.saturating_sub(1);
+    new.held = held;
+    new
+}
+
+/// Returns what is found behind an instruction that changes this.
+pub fn after(state: State, change: Change) -> State {
+    let mut new = state;
+    match change {
+        Change::Same => new,
+        Change::Holds(held) => {
+            new.held = held;
+            new
+        }
+        Change::Leaves(awake) => {
+            new.awake = awake;
+            new
+        }
+        Change::Pushes(slot) => pushed(state, slot),
+        Change::Pulls(held) => pulled(state, held),
+        Change::Returns(awake, blank) => {
+            new.awake = awake;
+            new.blank = blank;
+            new
+        }
+        Change::Begins(_) => {
+            new.level = Level::Sub;
+            new.depth = 0;
+            new
+        }
+    }
+}
+
+// Returns what a byte holds whichever of two ways leads to a place.
+fn joined_slot(one: Slot, other: Slot) -> Slot {
+    if one == other { one } else { Slot::Any }
+}
+
+// Returns what two ways leave on the stack.
+fn joined_slots(one: [Slot; SLOTS], other: [Slot; SLOTS]) -> [Slot; SLOTS] {
+    let mut joined = one;
+    for i in 0..SLOTS {
+        joined[i] = joined_slot(one[i], other[i]);
+    }
+    joined
+}
+
+/// Returns what holds whichever of two ways leads to a place.
+pub fn joined(old: State, new: State) -> State {
+    let mut joined = old;
+    joined.held = Held {
+        a: joined_slot(old.held.a, new.held.a),
+        x: joined_slot(old.held.x, new.held.x),
+        y: joined_slot(old.held.y, new.held.y),
+    };
+    joined.awake = old.awake && new.awake;
+    joined.blank = old.blank || new.blank;
+    if same_level(old.level, Level::Nmi) {
+        joined.slots = joined_slots(old.slots, new.slots);
+    }
+    joined
+}
+
+/// Returns whether two ways leave the same but for room, fuel and ends.
+pub fn is_same(one: State, other: State) -> bool {
+    one.held == other.held
+        && one.slots == other.slots
+        && one.awake == other.awake
+        && one.blank == other.blank
+}
+
+// Returns the slots of the NMI's stack, the newest first.
+fn slots_of(state: State) -> ArrayVec<Slot, SLOTS> {
+    let mut slots: ArrayVec<Slot, SLOTS> = ArrayVec::new();
+    let depth = usize::from(state.depth);
+    if SLOTS < depth || !same_level(state.level, Level::Nmi) {
+        return slots;
+    }
+    for i in 0..depth {
+        slots.push(state.slots[depth - 1 - i]);
+    }
+    slots
+}
+
+/// Returns the note of a place.
+pub fn note_of(state: State) -> Note {
+    Note {
+        level: state.level,
+        depth: state.depth,
+        held: state.held,
+        slots: slots_of(state),
+        room: state.room,
+        fuel: state.fuel,
+        awake: state.awake,
+        blank: state.blank,
+        ends: state.ends,
+    }
+}
+}
+mod step {
+//! Where an instruction goes on, and what it needs.
+use crate::follow::{holding, of_held, set};
+use crate::kind::{Kind, Register, kind_of, size};
+use crate::note::{Change, Slot};
+use crate::rules::{blank_after, byte_at, is_driver, still_awake, target, word_at};
+use crate::state::{State, state_at, top};
+
+/// A place where an instruction goes on, and what it changes.
+#[derive(Clone, Copy)]
+pub struct Onward {
+    pub to: u32,
+    pub change: Change,
+}
+
+/// What an instruction does.
+#[derive(Clone, Copy)]
+pub struct Step {
+    /// It goes on behind itself, and where it branches, jumps or calls to.
+    pub next: Option<Onward>,
+    pub to: Option<Onward>,
+    /// How many bytes the driver pushes that it calls.
+    pub room: u16,
+    /// It returns, and a frame may be blank.
+    pub ends: bool,
+}
+
+/// What an instruction needs, by all that comes after it.
+#[derive(Clone, Copy)]
+pub struct Needs {
+    /// How many bytes it may push, with all that it calls.
+    pub room: u16,
+    /// How many instructions the NMI does behind it.
+    pub fuel: u16,
+    /// A frame may be blank where it returns.
+    pub ends: bool,
+}
+
+// Returns the step of an instruction that goes nowhere.
+fn nowhere(room: u16, ends: bool) -> Step {
+    Step {
+        next: None,
+        to: None,
+        room,
+        ends,
+    }
+}
+
+// Returns the step of one that goes on in one place.
+fn straight(to: u32, change: Change, room: u16) -> Step {
+    Step {
+        next: Some(Onward { to, change }),
+        to: None,
+        room,
+        ends: false,
+    }
+}
+
+fn jump(word: u16, reset: u16, state: State) -> Step {
+    if word == reset {
+        return nowhere(0, false);
+    }
+    if is_driver(word) {
+        return nowhere(4, blank_after(word, state.blank));
+    }
+    straight(u32::from(word), Change::Same, 0)
+}
+
+// Where a frame may be blank that the called subroutine leaves, if `ends`.
+fn call(word: u16, at: u32, state: State, ends: bool) -> Step {
+    if is_driver(word) {
+        let awake = word == 0x6800 || state.awake;
+        let change = Change::Returns(awake, blank_after(word, state.blank));
+        return straight(at + 3, change, 4);
+    }
+    Step {
+        next: Some(Onward {
+            to: at + 3,
+            change: Change::Returns(state.awake, ends),
+        }),
+        to: Some(Onward {
+            to: u32::from(word),
+            change: Change::Begins(ends),
+        }),
+        room: 0,
+        ends: false,
+    }
+}
+
+fn branch(at: u32, low: u8) -> Step {
+    Step {
+        next: Some(Onward {
+            to: at + 2,
+            change: Change::Same,
+        }),
+        to: Some(Onward {
+            to: target(at, low),
+            change: Change::Same,
+        }),
+        room: 0,
+        ends: false,
+    }
+}
+
+// Returns what an instruction does, by its kind and the bytes behind its opcode.
+fn step_with(kind: Kind, low: u8, word: u16, reset: u16, at: u32, state: State, ends: bool) -> Step {
+    let held = state.held;
+    match kind {
+        Kind::Quiet(sets, bytes) => {
+            straight(at + u32::from(bytes), Change::Holds(set(sets, held)), 0)
+        }
+        Kind::Reads(sets, place) => {
+            straight(
+                at + u32::from(size(place)),
+                Change::Holds(set(sets, held)),
+                0,
+            )
+        }
+        Kind::Transfer(from, to) => {
+            straight(
+                at + 1,
+                Change::Holds(holding(to, of_held(from, held), held)),
+                0,
+            )
+        }
+        Kind::Stores(place) => {
+            let awake = still_awake(state.awake, place, low, word);
+            straight(at + u32::from(size(place)), Change::Leaves(awake), 0)
+        }
+        Kind::Push => straight(at + 1, Change::Pushes(held.a), 0),
+        Kind::PushFlags => straight(at + 1, Change::Pushes(Slot::Any), 0),
+        Kind::Pull => {
+            straight(
+                at + 1,
+                Change::Pulls(holding(Register::A, top(state), held)),
+                0,
+            )
+        }
+        Kind::PullFlags => straight(at + 1, Change::Pulls(held), 0),
+        Kind::Branch => branch(at, low),
+        Kind::Jump => jump(word, reset, state),
+        Kind::Call => call(word, at, state, ends),
+        Kind::Return => nowhere(0, state.blank),
+        Kind::Finish | Kind::Wild => nowhere(0, false),
+    }
+}
+
+// Returns whether a frame may be blank where what begins at a place returns.
+fn ends_at(states: &[Option<State>], at: u32) -> bool {
+    match state_at(states, at) {
+        Some(state) => state.ends,
+        None => false,
+    }
+}
+
+/// Returns what the instruction at a place does.
+pub fn step_at(rom: &[u8], states: &[Option<State>], at: u32, state: State) -> Step {
+    let kind = kind_of(byte_at(rom, at));
+    let low = byte_at(rom, at + 1);
+    let word = word_at(rom, at + 1);
+    let reset = word_at(rom, 0x7FFC);
+    let ends = ends_at(states, u32::from(word));
+    step_with(kind, low, word, reset, at, state, ends)
+}
+
+// Returns how many bytes an instruction may push where so many may be pushed behind it.
+fn room_before(change: Change, room: u16) -> u16 {
+    match change {
+        Change::Pushes(_) => room.saturating_add(1),
+        Change::Pulls(_) => room.saturating_sub(1),
+        Change::Begins(_) => room.saturating_add(2),
+        _ => room,
+    }
+}
+
+// Returns whether what returns behind an instruction returns from its own subroutine.
+fn ends_before(change: Change, ends: bool) -> bool {
+    match change {
+        Change::Begins(_) => false,
+        _ => ends,
+    }
+}
+
+// Returns what is needed before it goes on there, too.
+fn with_onward(states: &[Option<State>], onward: Option<Onward>, needs: Needs) -> Needs {
+    let Some(one) = onward else {
+        return needs;
+    };
+    let Some(next) = state_at(states, one.to) else {
+        return needs;
+    };
+    Needs {
+        room: needs.room.max(room_before(one.change, next.room)),
+        fuel: needs.fuel.max(next.fuel.saturating_add(1)),
+        ends: needs.ends || ends_before(one.change, next.ends),
+    }
+}
+
+/// Returns what an instruction needs, by what is found where it goes on.
+pub fn needs_of(states: &[Option<State>], step: Step) -> Needs {
+    let own = Needs {
+        room: step.room,
+        fuel: 0,
+        ends: step.ends,
+    };
+    with_onward(states, step.to, with_onward(states, step.next, own))
+}
+}
+mod work {
+//! The places that are still to be looked at.
+use std::prelude::*;
+
+use crate::follow::{FIRST, PLACES};
+use crate::kind::{Kind, kind_of, size};
+use crate::rules::{byte_at, is_driver, target, word_at};
+use std::alloc::{AllocError, Allocator};
+
+/// Returns as many of a value as there are places.
+pub fn filled<A: Allocator, T: Copy>(alloc: A, value: T) -> Result<Vec<T, A>, AllocError> {
+    let mut all = Vec::new(alloc);
+    for _ in 0..PLACES {
+        all.push(value)?;
+    }
+    Ok(all)
+}
+
+/// Returns the number of a place, or one that no place has.
+pub fn number_of(at: u32) -> usize {
+    at.wrapping_sub(FIRST) as usize
+}
+
+/// Returns how many bytes an instruction has that goes on behind itself, or 0.
+pub fn length_of(kind: Kind) -> u32 {
+    match kind {
+        Kind::Quiet(_, bytes) => u32::from(bytes),
+        Kind::Reads(_, place) | Kind::Stores(place) => u32::from(size(place)),
+        Kind::Transfer(_, _) | Kind::Push | Kind::PushFlags | Kind::Pull | Kind::PullFlags => 1,
+        Kind::Branch => 2,
+        Kind::Call => 3,
+        Kind::Jump | Kind::Return | Kind::Finish | Kind::Wild => 0,
+    }
+}
+
+/// Returns where an instruction branches, jumps or calls to in the program.
+#[must_use]
+pub fn target_of(rom: &[u8], at: u32) -> Option<u32> {
+    let word = word_at(rom, at + 1);
+    match kind_of(byte_at(rom, at)) {
+        Kind::Branch => Some(target(at, byte_at(rom, at + 1))),
+        Kind::Jump => {
+            if is_driver(word) || word == word_at(rom, 0x7FFC) {
+                return None;
+            }
+            Some(u32::from(word))
+        }
+        Kind::Call => {
+            if is_driver(word) {
+                return None;
+            }
+            Some(u32::from(word))
+        }
+        _ => None,
+    }
+}
+
+// The place of a list, or 0.
+fn place_in(list: &[u32], at: u32) -> u32 {
+    match list.get(number_of(at)) {
+        Some(place) => *place,
+        None => 0,
+    }
+}
+
+fn put_in(list: &mut [u32], at: u32, place: u32) {
+    if let Some(known) = list.get_mut(number_of(at)) {
+        *known = place;
+    }
+}
+
+/// From where each place is branched, jumped or called to: a list for each.
+pub struct Callers<A: Allocator> {
+    first: Vec<u32, A>,
+    next: Vec<u32, A>,
+}
+
+impl<A: Allocator + Copy> Callers<A> {
+    /// Returns the callers of all places of a program.
+    pub fn of(alloc: A, rom: &[u8]) -> Result<Callers<A>, AllocError> {
+        let mut first = filled(alloc, 0)?;
+        let mut next = filled(alloc, 0)?;
+        for i in 0..PLACES {
+            let from = FIRST + i;
+            if let Some(to) = target_of(rom, from) {
+                let old = place_in(&first, to);
+                put_in(&mut next, from, old);
+                put_in(&mut first, to, from);
+            }
+        }
+        Ok(Callers { first, next })
+    }
+
+    /// Returns the first caller of a place, or 0.
+    pub fn first_of(&self, to: u32) -> u32 {
+        place_in(&self.first, to)
+    }
+
+    /// Returns the caller behind one, of the same place, or 0.
+    pub fn next_of(&self, from: u32) -> u32 {
+        place_in(&self.next, from)
+    }
+}
+
+/// Places that wait to be looked at: the one that came last is the first one.
+pub struct Work<A: Allocator> {
+    waiting: Vec<bool, A>,
+    below: Vec<u32, A>,
+    top: u32,
+}
+
+impl<A: Allocator + Copy> Work<A> {
+    pub fn new(alloc: A) -> Result<Work<A>, AllocError> {
+        let waiting = filled(alloc, false)?;
+        let below = filled(alloc, 0)?;
+        Ok(Work {
+            waiting,
+            below,
+            top: 0,
+        })
+    }
+
+    /// Puts a place on top, if it isn't waiting already.
+    pub fn push(&mut self, at: u32) {
+        if let Some(waits) = self.waiting.get_mut(number_of(at)) {
+            if *waits {
+                return;
+            }
+            *waits = true;
+            put_in(&mut self.below, at, self.top);
+            self.top = at;
+        }
+    }
+
+    /// Takes the place on top.
+    pub fn pop(&mut self) -> Option<u32> {
+        let at = self.top;
+        if at == 0 {
+            return None;
+        }
+        self.top = place_in(&self.below, at);
+        if let Some(waits) = self.waiting.get_mut(number_of(at)) {
+            *waits = false;
+        }
+        Some(at)
+    }
+}
+
+/// The places whose ways are still to be followed, and those whose needs are to be counted again.
+pub struct Todo<A: Allocator> {
+    pub ahead: Work<A>,
+    pub back: Work<A>,
+}
+
+impl<A: Allocator + Copy> Todo<A> {
+    pub fn new(alloc: A) -> Result<Todo<A>, AllocError> {
+        let ahead = Work::new(alloc)?;
+        let back = Work::new(alloc)?;
+        Ok(Todo { ahead, back })
+    }
+}
+}
 
 pub use follow::{FIRST, PLACES, leads, suits};
 pub use judging::{Judged, Verdict, judge};
 pub use kind::{Kind, Operand, Register, Sets, kind_of, size};
 pub use known::{FAR, Fact, Gap, Known, Unseen, brings_gap, known_at, value};
-pub use maker::{Step, make, step_at};
+pub use maker::make;
 pub use note::{Change, Held, Level, Note, Slot};
 pub use offered::{bad_table, bad_word};
 pub use program::{Refusal, boot, check_rules, stands};
 pub use reach::{Test, reached};
 pub use reason::{Ask, Broken, Rule, all_broken, why};
-pub use rules::{BYTES, byte_at, fine, word_at};
+pub use rules::{BYTES, byte_at, fine, is_driver, word_at};
+pub use work::{length_of, target_of};
