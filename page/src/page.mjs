@@ -618,7 +618,8 @@ function showView(view) {
   for (const one of [VIEWS.twice, VIEWS.game]) document.body.classList.toggle(one, one === view);
   play.setShown(view === VIEWS.game);
   twice.setShown(view === VIEWS.twice);
-  byId(view === VIEWS.twice ? 'both-foot' : 'scope-by-game').append(byId('scope-box'));
+  if (view === VIEWS.twice) byId('asked').after(byId('scope-box'));
+  else byId('scope-by-game').append(byId('scope-box'));
   fitSizes();
 }
 
@@ -1161,7 +1162,8 @@ function makeLinks() {
 }
 
 function makeTwice(games, driver) {
-  twice = Object.assign(new Twice(engine, Object.assign(games, { driver })), { colors });
+  twice = Object.assign(new Twice(engine, Object.assign(games, { driver })),
+    { colors, scope: play.scope });
   byId('both-game').append(...games.map(({ name }) => new Option(name)));
   byId('both-game').addEventListener('change', () => {
     location.hash = plainFragment({ both: byId('both-game').value });

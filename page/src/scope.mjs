@@ -9,8 +9,9 @@ import { byId, setText } from './parts.mjs';
 
 /* How often a picture is drawn in a second; so many samples in a second make its lines straight. */
 const PICTURES = 60, RATE_WANTED = 96000;
-/* How long before it begins a picture is handed on, in seconds, beside what the output holds. */
-const SCOPE_LEAD = 0.02;
+/* How long before it begins a picture is handed on, in seconds, beside what the output holds; and
+ * at most, where the page is busy. */
+const FIRST_LEAD = 0.03, MOST_LEAD = 0.24;
 /* The slider's steps: off, and from the first Hertz on so many in an octave. */
 const FIRST_HERTZ = 0.25, STEPS_OF_OCTAVE = 4;
 /* The preview: its side in pixels, how many places of the beam it shows about, with how many frames
@@ -66,11 +67,16 @@ export class Scope {
   constructor(look) {
     Object.assign(this, { look, isOn: false, isPlaying: false, context: null, last: null });
     Object.assign(this, { strokes: null, highPass: 0, size: 1, sides: null, viewed: null });
-    Object.assign(this, { frames: 0, isTurning: false });
+    Object.assign(this, { frames: 0, isTurning: false, lead: FIRST_LEAD });
     this.frame = this.frame.bind(this);
   }
 
+  /* In a browser that makes no sound it says so. */
   setOn(isOn) {
+    if (globalThis.AudioContext === undefined) {
+      setText(byId('scope-said'), 'This browser makes no sound.');
+      return;
+    }
     this.isOn = isOn;
     byId('scope').setAttribute('aria-pressed', String(isOn));
     if (isOn) this.context ??= new AudioContext({ latencyHint: 'balanced' });
@@ -115,21 +121,29 @@ export class Scope {
   }
 
   /* Lets the picture begin at the end of a turn of the one before, which ends there; or in the
-   * place of one that hasn't begun. */
+   * place of one that hasn't begun. Where that comes too late the turn is cut, and from then on a
+   * picture is handed on earlier. */
   play() {
     const { context, sides, last } = this, [{ length }] = sides, { sampleRate: rate } = context;
-    const soon = context.currentTime + (context.baseLatency ?? 0) + SCOPE_LEAD;
-    const turns = last === null ? 0 : Math.ceil((soon * rate - last.begin) / last.length);
-    const begin = last === null ? Math.ceil(soon * rate)
-      : last.begin + Math.max(0, turns) * last.length;
     const buffer = context.createBuffer(2, length, rate);
     sides.forEach((side, k) => buffer.copyToChannel(side, k));
     const source = Object.assign(context.createBufferSource(), { buffer, loop: true });
     source.connect(context.destination);
+    const begin = this.nextBegin(rate);
     source.start(begin / rate);
     if (begin === last?.begin) last.source.disconnect();
     else last?.source.stop(begin / rate);
-    this.last = { source, begin, length };
+    const isLate = context.currentTime * rate >= begin;
+    if (isLate) this.lead = Math.min(MOST_LEAD, 2 * this.lead);
+    this.last = { source, begin: isLate ? null : begin, length };
+  }
+
+  /* The sample at which the next picture begins: the first end of a turn that isn't too soon. */
+  nextBegin(rate) {
+    const { context, last, lead } = this;
+    const soon = Math.ceil((context.currentTime + (context.baseLatency ?? 0) + lead) * rate);
+    if (last === null || last.begin === null) return soon;
+    return last.begin + Math.max(0, Math.ceil((soon - last.begin) / last.length)) * last.length;
   }
 
   /* Shows the samples, behind an output with this high-pass. */

@@ -148,7 +148,8 @@ export class Twice {
 
   /* What is heard is the board whose wire is whole, while both run, and are in view. */
   hush() {
-    this.ears.follow(this.whole.arcade, this.isShown && this.isRunning && !document.hidden);
+    const isHeard = this.isShown && this.isRunning && !document.hidden && !this.scope.isOn;
+    this.ears.follow(this.whole.arcade, isHeard);
   }
 
   setLoud(isLoud) {
@@ -525,7 +526,9 @@ export function listenToTwice(twice) {
   });
   // Who clicks it goes on by the keys of the game.
   on('scope', 'click', ({ detail }) => {
-    if (twice.isShown && detail > 0) byId('tube-cut').focus({ preventScroll: true });
+    if (!twice.isShown) return;
+    twice.hush();
+    if (detail > 0) byId('tube-cut').focus({ preventScroll: true });
   });
   for (const id of ['both-beam', 'both-ignored']) on(id, 'change', () => twice.beginAnew());
   on('both-anew', 'click', () => twice.beginAnew());

@@ -24,10 +24,11 @@ export const TAP = `(() => {
 })()`;
 
 // Follows each block turn by turn, after the silence before the first picture: how many whole turns
-// are in it, how often another picture began, and how many samples are of no turn, or silent; and in
-// how many turns the first sample is another one.
+// are in it, how often another picture began, how many samples are of no turn, or silent, and in how
+// many turns the first one is another one.
 const HEARD = `(() => {
-  const { pictures, blocks } = tapped, found = { turns: 0, changes: 0, lost: 0, silent: 0, first: 0 };
+  const { pictures, blocks } = tapped, samples = 16384 * blocks.length;
+  const found = { turns: 0, changes: 0, samples, lost: 0, silent: 0, first: 0 };
   const near = (a, b) => Math.abs(a - b) < 1e-4;
   const isAt = (block, at, [left, right], k) => (
     near(block[0][at], left[k]) && near(block[1][at], right[k]));
