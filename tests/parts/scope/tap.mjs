@@ -24,8 +24,8 @@ export const TAP = `(() => {
 })()`;
 
 // Follows each block turn by turn, after the silence before the first picture: how many whole turns
-// are in it, how often another picture began, how many samples are of no turn, or silent, and in how
-// many turns the first one is another one.
+// are in it, how often another picture began, how many samples are of no turn, or silent, and in
+// how many turns the first one is another one.
 const HEARD = `(() => {
   const { pictures, blocks } = tapped, samples = 16384 * blocks.length;
   const found = { turns: 0, changes: 0, samples, lost: 0, silent: 0, first: 0 };
