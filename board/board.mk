@@ -177,7 +177,8 @@ premises = $(BOARD)emulator/premises build/driver.proved build/$(PROGRAM).progra
     build/shapes.equates $(JUDGED) "$(played)" build/$(PROGRAM).map build/rom
 
 premises: good_buttons build/roms/$(MACHINE) build/premises build/driver.proved
-	@$(premises)
+	@$(premises) >build/said; status=$$?; $(BOARD)named build/$(PROGRAM).dbg <build/said; \
+	    exit $$status
 
 proof: build/$(PROGRAM).program build/rom
 	@$(BOARD)prove $(PROGRAM)

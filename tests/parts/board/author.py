@@ -131,12 +131,12 @@ MISTAKES = [
     ('a shape without return', edit(BALL, 'ball: vctr 4 384 0 9\nbox: 0,0 12,0\n', SHAPES), 'make',
      '^warning: ball has no return, and goes on into box'),
     ('the scale 9 for 5', line('$99'), 'premises',
-     "^warning: a part isn't seen of what ...., line, from .*, picture .* puts, in each of 62 pict"
-     'ures: it goes from 672, 780 to 1184, 780, and the tube shows 0, 117 to 1023, 905$'),
+     r"^warning: a part isn't seen of what game.s line 206 \(line\), from .* puts, in each of 62 "
+     'pictures: it goes from 672, 780 to 1184, 780, and the tube shows 0, 117 to 1023, 905$'),
     ('no scale', line('9'), 'premises',
-     '^warning: all is of scale 0 of what ...., line, .*: at most 1.0 units; A is 16 times'),
+     r'^warning: all is of scale 0 of what .* \(line\), .*: at most 1.0 units; A is 16 times'),
     ('no intensity', line('$50'), 'premises',
-     '^warning: nothing is seen of what ...., line, .* puts, in 62 pictures: all is dark$'),
+     r'^warning: nothing is seen of what .* \(line\), .* puts, in 62 pictures: all is dark$'),
     ('a text above the tube', edit('line_at 420, 780', 'line_at 420, 950'), 'premises',
      '^warning: nothing is seen of what .*, from .*draw.* it goes from 420, 950 to 588, 986, and'),
     ('a letter without a shape', edit('"SCORE "', '"SCORE* "'), 'make',
@@ -146,8 +146,8 @@ MISTAKES = [
     ('NMI and reset exchanged', edit('.word nmi, reset, irq', '.word reset, nmi, irq'), 'proof',
      r'VECTORS has \.word nmi, reset, irq, in this order'),
     ('a vector of 1,024', line('$59', 1024), 'premises',
-     '^warning: 62 instructions were left out, as there is no such vector.*, line, from ...., pict'
-     r'ure \+ 6, at 0.0'),
+     r'^warning: 62 instructions were left out, as there is no such vector.* \(line\), from game.s '
+     r'line 50 \(picture \+ 6\), at 0.0'),
     ('a variable that nothing sets', edit('serve:  lda #0\n        sta score\n', 'serve:\n'),
      'premises', '^warning: .* bytes that nothing had written, .* score$'),
     ('no LABS at first', edit('draw_at wall_x, wall_y, wall', 'dvg_call wall'), 'proof',
@@ -207,7 +207,7 @@ MISTAKES = [
     ('the low byte of dvg_x alone', edit(
         CLOSE, ' lda #40\n sta dvg_x\n lda #200\n sta dvg_y\n lda #1\n sta dvg_y + 1\n lda #0\n'
         'half:   jsr dvg_labs\n dvg_call ball\n' + CLOSE), 'premises',
-     '^warning: .* take bytes of dvg_x or dvg_y from before the last one, .*, half, from'),
+     r'^warning: .* take bytes of dvg_x or dvg_y from before the last one, .* \(half\), from'),
     ('beats that are never set back', edit('        lda #0\n        sta beats\n', ''), 'judge',
      '^BAD: too many new pictures'),
     ('a coin counter that stays on', each_picture(' lda #OUT_COIN_LEFT\n sta OUTPUTS'), 'sound',
@@ -224,9 +224,9 @@ MISTAKES = [
     ('no font in SKETCH', edit('../../board/letters.sketch ', '', MAKEFILE), 'make',
      'letters.inc.*: Error: .*digit_0'),
     ('a button by BEQ', edit(LEFT, LEFT.replace('bpl', 'beq')), 'premises',
-     '^warning: .* branches by BEQ or BNE look at all bits of a switch.*, move_bat'),
+     '^warning: .* branches by BEQ or BNE look at all bits of a switch.* .move_bat'),
     ('switches without their mask', each_picture(' lda SWITCHES_SHIPS\n bne four\n nop\nfour:'),
-     'premises', '^warning: .*AND #SWITCHES_MASK leaves two, .*, picture'),
+     'premises', '^warning: .*AND #SWITCHES_MASK leaves two, .* .picture'),
     # Of a game that somebody wrote by the papers alone
     ('a picture that stands still', halting(10), 'judge',
      r'^BAD: no new picture for 1\.[67] seconds, from 0\.32[56] s on: redraws alone; after a second'
@@ -240,20 +240,20 @@ MISTAKES = [
      r'^refused: .*it runs on into game.s line 62 \(rest\), .*: is an RTS or JMP missing'),
     ('an RTS that is left out', SPARE + edit(DRAW, 'blink:  inc spare\n' + DRAW)
      + each_picture(' jsr blink'), 'premises',
-     '^warning: 62 calls of dvg_open were refused, .*; ...., blink, runs on into draw: is an rts'),
+     r'^warning: 62 calls of dvg_open were refused, .* \(blink\), runs on into draw: is an rts'),
     ('a text behind the end of a frame', edit(CLOSE, ' jsr dvg_close\nafter:  say title\n rts\n'),
-     'premises', f'^warning: {62 * 7} instructions were put outside of a frame, the first by ....'
-     r', print \+ 28, from ...., after \+ 4, from ...., picture \+ 6, at'),
+     'premises', f'^warning: {62 * 7} instructions were put outside of a frame, the first by let'
+     r'ters.inc line 56 \(print \+ 28\), from .* \(after \+ 4\), from .* \(picture \+ 6\), at'),
     ('a ROL of what nothing set', drawn(
         ' lda #40\n sta dvg_x\n rol dvg_x + 1\n lda #200\n sta dvg_y\n lda #0\n sta dvg_y + 1\n'
         'half:   jsr dvg_labs\n dvg_call ball'), 'premises',
-     '^warning: 62 calls .* take bytes of dvg_x or dvg_y from before the last one, .*, half, from'),
+     r'^warning: 62 calls .* take bytes of dvg_x or dvg_y from before the last .* \(half\), from'),
     ('X after a call of the driver',
      drawn(' ldx #3\neach:   dvg_call ball\nlost:   dex\n bpl each'), 'premises',
-     r'^warning: 62 uses of X come after a call .*, lost, from ...., picture \+ 6, at'),
+     r'^warning: 62 uses of X come after a call .* \(lost\), from .* \(picture \+ 6\), at'),
     ('a list of places that is short by one', dots('1, 3, 5'), 'premises',
      '^warning: 62 reads go beyond the end of dots_x, by up to 1 byte, into dots_y, the firs'
-     r't by ...., dots \+ 3, from ...., picture \+ 6, at 0.0'),
+     r't by game.s line 202 \(dots \+ 3\), from .* \(picture \+ 6\), at 0.0'),
     ('a variable with a value', edit('beats:  .res 1 ', 'beats:  .byte 8 '), 'make',
      '^make: a variable has no value at first: .res reserves it'),
     ('a segment that there is not', edit('"DATA"\n\nwall_x', '"RODATA"\n\nwall_x'), 'make',
