@@ -4,12 +4,10 @@ use Rattle.dvg_game_content.specs.Law.{IsWordOf}
 use Rattle.dvg_game_content.proofs.ContentFromBytes.{content_by_tests}
 use Rattle.dvg_game_6502.specs.Games.{Content}
 use Rattle.dvg_game_board.specs.Keeps.{GamesKeep}
-use Rattle.dvg_game_check.specs.declared.judging.Judged.{Judged}
-use Rattle.dvg_game_check.specs.declared.judging.Verdict.TheVariants.{Keeps}
 use Rattle.dvg_game_check.specs.Brought.{has, has_word, ways_in}
 use Rattle.dvg_game_check.specs.Offered.{IsFineWord}
 use Rattle.dvg_game_check.specs.Rules.{HasBytes, notes_in}
-use Rattle.dvg_game_check.specs.Verdicts.{IsSafe, Means, Says}
+use Rattle.dvg_game_check.specs.Verdicts.{IsSafe}
 use Rattle.dvg_judged_board.proofs.Offers.{fine_table_is, word_is}
 use Rattle.dvg_judged_board.specs.Judged.{JudgedKeeps}
 
@@ -29,14 +27,7 @@ content_is bytes R start safe rom at_bytes =
     (safe.accepted rom at_bytes) (safe.only rom at_bytes) (λ t there. fine_table_is R bytes t rom (safe.tables_fine t there) at_bytes)
     (λ a x small there. by_word R a x small (safe.words_fine (a + 256 * x) there))
 
--- a yes is the one of safe programs
-pub safe_is : (bytes R : List ℕ) (start : ℕ) (answer : Judged) → answer.verdict ≡ Keeps start → Means bytes R answer
-    → IsSafe bytes R start
-safe_is bytes R start answer is_yes means =
-    subst (λ v. Says bytes R answer.notes.items answer.ways.items answer.tables.items answer.words.items v) is_yes means
-
 pub judged : GamesKeep → JudgedKeeps
-judged law bytes R start answer is_yes means image held rom at_bytes at clocks is =
-    let safe = safe_is bytes R start answer is_yes means in
+judged law bytes R start safe image held rom at_bytes at clocks is =
     law R image held rom start (notes_in safe.notes) (safe.accepted rom at_bytes)
     (content_is bytes R start safe rom at_bytes) at clocks is

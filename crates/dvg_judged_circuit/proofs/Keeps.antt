@@ -4,5 +4,5 @@ use Rattle.dvg_judged_cells.specs.Judged.{JudgedOnCellsKeeps}
 use Rattle.dvg_judged_circuit.specs.Judged.{JudgedOnCircuitKeeps}
 
 pub judged : JudgedOnCellsKeeps → JudgedOnCircuitKeeps
-judged law bytes R start answer is_yes means image rom at_bytes is_rom count rom_in held there =
-    keeps R image rom start held is_rom count rom_in there (law bytes R start answer is_yes means image held.ram rom at_bytes)
+judged law bytes R start safe image rom at_bytes is_rom count rom_in held there =
+    keeps R image rom start held is_rom count rom_in there (law bytes R start safe image held.ram rom at_bytes)
