@@ -380,12 +380,12 @@ export class Play extends Player {
     this.showMoment(this.byteText(torn));
   }
 
-  byteText({ picture, byte, parts }) {
+  byteText({ picture, byte, parts, own }) {
     const { at, readAt, by, isEarly } = byte, later = 1000 * (readAt - at) / HERTZ;
     return `At ${(at / HERTZ).toFixed(4)} s of the game a byte `
       + `${isEarly ? 'came early' : 'was written'}, by ${this.instructionText(by)}. `
       + `${tearCode({ word: byte })} ${later.toFixed(2)} ms later the generator read it: `
-      + `there the tear begins. ${redText(parts.wrong, picture)}${this.ownText(torn)}`;
+      + `there the tear begins. ${redText(parts.wrong, picture)}${this.ownText({ own, byte })}`;
   }
 
   /* Which store of the game's own came before a tear, if one did. The driver waits for HALT: so

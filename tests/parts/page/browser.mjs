@@ -2258,7 +2258,7 @@ async function testStrip() {
   await tab.value('document.getElementById("past").focus()');
   await tab.key('ArrowLeft');
   expect('a key lets the game rest', 'Play', await tab.text('pause'));
-  const writes = /; the driver, 6[89A][0-9A-F]{2}: sta .* writes half [01]\.$/;
+  const writes = /; the driver, 6[89A][0-9A-F]{2}: sta .* writes half [01]\. [0-9]+ of /;
   for (let k = 0; k < 200 && !writes.test(await tab.text('past-text')); k++) {
     await tab.key('ArrowLeft', k % 3 ? 0 : 8);
   }
@@ -2462,7 +2462,7 @@ async function testGameWidths() {
     await tab.size(width, height, width < 640);
     await tab.open(rocks);
     await expectSoon(`${width} by ${height}: in view`, '',
-      () => outOfView(['#tube', '.pads', ...more]));
+      () => outOfView(['#tube', '.cabinet .pads', ...more]));
     expect(`${width}: it doesn't scroll sideways`, true,
       await tab.value('document.documentElement.scrollWidth <= innerWidth'));
     writeFileSync(`${work}/page_game_${width}.png`, await tab.screenshot());
