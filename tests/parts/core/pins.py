@@ -29,7 +29,7 @@ def read_lpf(path):
         match = re.fullmatch(
             r'(LOCATE COMP|IOBUF PORT|FREQUENCY PORT|SYSCONFIG) (?:"(\S+)" )?(.*);', line)
         if match:
-            found[match[1], match[2]] = match[3].split()
+            found.setdefault((match[1], match[2]), []).extend(match[3].split())
     return found
 
 
