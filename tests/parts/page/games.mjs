@@ -13,7 +13,7 @@ import {
   appendFileSync, cpSync, existsSync, mkdirSync, readFileSync, writeFileSync,
 } from 'node:fs';
 import { Arcade, HERTZ } from '../../../page/src/arcade.mjs';
-import { judgeProgram } from '../../../page/src/checker.mjs';
+import { VERDICT, judgeProgram } from '../../../page/src/checker.mjs';
 import { COMMAND, Engine, KIND } from '../../../page/src/engine.mjs';
 import {
   builtGame, gameOf, isOfGame, lengthFault, romAlone, unzipped, vectorsFault,
