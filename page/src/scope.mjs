@@ -11,7 +11,7 @@ import { byId, setText } from './parts.mjs';
 const PICTURES = 60, RATE_WANTED = 96000;
 /* How long before it begins a picture is handed on, in seconds, beside what the output holds; and
  * at most, where the page is busy. */
-const FIRST_LEAD = 0.03, MOST_LEAD = 0.24;
+const FIRST_LEAD = 0.05, MOST_LEAD = 0.4;
 /* The slider's steps: off, and from the first Hertz on so many in an octave. */
 const FIRST_HERTZ = 0.25, STEPS_OF_OCTAVE = 4;
 /* The preview: its side in pixels, how many places of the beam it shows about, with how many frames

@@ -3,6 +3,7 @@
 //     node browser.mjs CHROMIUM
 //
 // The last line is 'N passed, M failed'.
+import { cpus, loadavg } from 'node:os';
 import { startChromium } from '../page/chromium.mjs';
 import { TAP, listen, litOn } from './tap.mjs';
 
@@ -32,9 +33,11 @@ await tab.size(1280, 1000);
 await open('#game=Rocks');
 const heard = await listen(tab, 12);
 console.log(`scope in Chromium: ${JSON.stringify(heard)}`);
-// A turn is cut where a busy machine hands on a picture too late; the beam never rests.
-expect('all that is heard is turns of pictures, and nearly all are whole', heard.silent === 0
-  && heard.lost < 0.1 * heard.samples && heard.turns > 150 && heard.changes > 2, heard);
+// The beam never rests. A turn is cut, or two sound at once, only where a busy machine hands on a
+// picture too late.
+const mostLost = loadavg()[0] < cpus().length ? 0 : 0.5;
+expect('all that is heard is whole turns of pictures', heard.silent === 0 && heard.turns > 100
+  && heard.lost <= mostLost * heard.samples && heard.changes > 2, heard);
 expect('it is the picture on the tube', await tab.until(`${litOn('tube')} > 90`), 0);
 await tab.click('pause');
 const before = await made(), rest = await listen(tab, 6);
