@@ -12,9 +12,9 @@ BUILT are the constants that the page needs beside its modules, as JavaScript. T
     <!--SCRIPT HASH-->            nothing else in
 
 Each module is a function of its own, which gives the names that others import: so a private name is
-private. Its remarks are left out, but not their lines: so its code has the line of its file, counted
-from the remark that names it. A name that is imported and not exported, and an id that a module
-asks for and the page hasn't, are refused.
+private. Its remarks are left out, but not their lines: so its code has the line of its file,
+counted from the remark that names it. A name that is imported and not exported, and an id that a
+module asks for and the page hasn't, are refused.
 """
 import base64
 import hashlib

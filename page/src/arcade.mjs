@@ -35,8 +35,8 @@ const CLOSED = 0xFF, OPEN = 0x7F;
  * The memory behind it that keeps 64 bytes without power isn't here. */
 const POKEY_SWITCHES = 0xFD, POKEY_READS = { SWITCHES: AT.POKEY + 8, RANDOM: AT.POKEY + 10 };
 
-/* What is counted from a moment on; with how many bytes the generator fetched, how many strobes were
- * ignored, and the first early byte. */
+/* What is counted from a moment on; with how many bytes the generator fetched, how many strobes
+ * were ignored, and the first early byte. */
 function countsOf(cycles) {
   return { ...noCounts(), from: cycles, fetched: 0, ignored: 0, first: null };
 }

@@ -10,17 +10,18 @@ import { counted, grouped } from './words.mjs';
 
 /* What is told of files that the page doesn't show. */
 const TOLD = {
-  judged: () => 'This is what make judge saw of a run. The page doesn\'t show it, but the log of the '
-    + 'same run beside it, torn.log.',
-  driven: () => 'This is what a driver did, without what the generator fetched: nothing of it can be '
-    + 'judged here. make torn writes a log that can.',
+  judged: () => 'This is what make judge saw of a run. The page doesn\'t show it, but the log of '
+    + 'the same run beside it, torn.log.',
+  driven: () => 'This is what a driver did, without what the generator fetched: nothing of it can '
+    + 'be judged here. make torn writes a log that can.',
   pictures: ({ length }) => `This is ${length / 2048} times 2,048 bytes: as make judge keeps the `
     + 'vector RAM of each picture, or as sockets in one file. The page opens neither: make film '
     + 'draws such pictures, and sockets are dropped as files of their own.',
-  unsure: ({ length }) => `This has the ${grouped(length)} bytes of ${length === 6144 ? 'a program, '
-    + 'or of a dump with its vector ROM' : 'a dump, or of a large vector ROM'}. ${length === 6144
-    ? 'Its last bytes, which are vectors, lead into no program, and its' : 'Its'} word zero is no `
-    + 'jump, as each driver leaves it. If it is a dump, let its name end in .dump.',
+  unsure: ({ length }) => (length === 6144
+    ? 'This has the 6,144 bytes of a program, or of a dump with its vector ROM. Its last bytes, '
+      + 'which are vectors, lead into no program, and its '
+    : 'This has the 4,096 bytes of a dump, or of a large vector ROM. Its ')
+    + 'word zero is no jump, as each driver leaves it. If it is a dump, let its name end in .dump.',
   unknown: (bytes) => `This is neither a game, a dump, a log, a table of a bus, a ROM, a trace, a `
     + `list nor a sketch, so it was not opened.${lengthText(bytes)}`,
 };
@@ -140,12 +141,13 @@ export class Drops {
   /* Opens what `dvg list` prints of words as a frame, which begins in the middle of the screen if
    * the words don't say where. */
   openList(name, text) {
-    const lines = text.trim().split('\n').map((line) => line.replace(/^\S+ | \*$/g, '').toLowerCase());
+    const lines = text.trim().split('\n')
+      .map((line) => line.replace(/^\S+ | \*$/g, '').toLowerCase());
     while (/^(rtsl|halt)/.test(lines.at(-1))) lines.pop();
     const bad = lines.find((line) => !/^(labs|vctr|svec) /.test(line));
     if (bad !== undefined) {
-      this.stage.tell(name, `This is a list of words. It can't be drawn alone, for ${bad}: drop the `
-        + 'dump that it is of.', true);
+      this.stage.tell(name, `This is a list of words. It can't be drawn alone, for ${bad}: drop `
+        + 'the dump that it is of.', true);
       return;
     }
     if (!lines[0].startsWith('labs')) lines.unshift('labs 512 512 0');

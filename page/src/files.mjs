@@ -32,12 +32,13 @@ export function isText(bytes) {
 
 /* Whether bytes are a dump: by their name, or as their word zero is a jump. */
 function isDump(bytes, name) {
-  return DUMP_BYTES.includes(bytes.length) && (/\.(dump|bin)$/.test(name) || bytes[1] >> 4 === JUMP);
+  return DUMP_BYTES.includes(bytes.length)
+    && (/\.(dump|bin)$/.test(name) || bytes[1] >> 4 === JUMP);
 }
 
 /* A dump or a ROM by its length, and a text by its first line that says anything. A file of 4,096
- * bytes is a dump, as the larger ROM has its own button; but nothing is guessed as one that could be
- * a program: that is `unsure`. */
+ * bytes is a dump, as the larger ROM has its own button; but nothing is guessed as one that could
+ * be a program: that is `unsure`. */
 export function kindOf(bytes, name = '') {
   if (!isText(bytes)) {
     if (DUMP_BYTES.includes(bytes.length)) return isDump(bytes, name) ? 'dump' : 'unsure';

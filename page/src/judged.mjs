@@ -30,7 +30,9 @@ export function picturesVerdict({ pictures, judged, torn, contradictions, since 
   const more = contradictions === 0 ? '' : ` ${counted(contradictions, 'fetch', 'fetches')} read `
     + 'what was not written: somebody writes who isn\'t in the log.';
   const count = counted(judged, 'picture');
-  if (torn > 0) return { word: 'Torn', color: 'bad', text: `: ${torn} of ${count}${since}.${more}` };
+  if (torn > 0) {
+    return { word: 'Torn', color: 'bad', text: `: ${torn} of ${count}${since}.${more}` };
+  }
   if (pictures === 0) return nothing(`No picture is finished${since || ' yet'}.${more}`);
   if (judged === 0) {
     return nothing(`No picture to judge${since}: each run ended at word zero.${more}`);
@@ -43,7 +45,8 @@ export function picturesVerdict({ pictures, judged, torn, contradictions, since 
  * says which was the first early one. */
 export function bytesVerdict({ early, drew, written, unread, since }, firstText = '') {
   if (early > 0) {
-    return { word: 'Early', color: 'early', text: `: ${counted(early, 'byte')}${since}${firstText}.` };
+    return { word: 'Early', color: 'early',
+      text: `: ${counted(early, 'byte')}${since}${firstText}.` };
   }
   if (drew === 0) return nothing(`No run drew a half${since || ' yet'}.`);
   if (written === 0) return nothing(`No byte was written${since || ' yet'}.`);

@@ -25,7 +25,9 @@ const FIELDS = ['a', 'at', 'b', 'beam', 'both', 'count', 'embed', 'first', 'game
 function checked(state) {
   const strange = Object.keys(state).find((name) => !FIELDS.includes(name) && name !== 'opening');
   if (strange !== undefined) throw new Error(`“${strange.slice(0, 40)}” is nothing that it knows`);
-  if (!/^[1248]?$/.test(state.beam ?? '')) throw new Error(`no beam is ${state.beam} times as slow`);
+  if (!/^[1248]?$/.test(state.beam ?? '')) {
+    throw new Error(`no beam is ${state.beam} times as slow`);
+  }
   return state;
 }
 

@@ -22,7 +22,8 @@ import { DraftEditor, RomEditor } from './editors.mjs';
 import { listenToFiles, listenToMemory, listenToRows, listenToSizes } from './gestures.mjs';
 import { Verdicts, compareWithPlay } from './verdicts.mjs';
 import {
-  counted, countsText, grouped, instructionText, leftText, momentCode, momentText, pictureText, runText, wordCode, wordText,
+  counted, countsText, grouped, instructionText, leftText, momentCode, momentText, pictureText,
+  runText, wordCode, wordText,
 } from './words.mjs';
 import { builtGame } from './eproms.mjs';
 import { Play, listenToPlay } from './play.mjs';

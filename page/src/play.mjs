@@ -94,8 +94,8 @@ export class Play extends Player {
       || (isWanted && files.some(isSocketOfProgram));
     const game = isGame ? gameOf(files) : null;
     if (game === null) return { fault: '' };
-    const shapes = game.hasShapes ? '' : ' Its vector ROM isn\'t among them, so what it calls draws '
-      + 'nothing: drop both at once.';
+    const shapes = game.hasShapes ? '' : ' Its vector ROM isn\'t among them, so what it calls '
+      + 'draws nothing: drop both at once.';
     const sockets = game.missing === '' ? '' : ` ${game.missing} of its sockets aren't among them.`;
     return { fault: null, name, game, said: `${name}.${sockets}${shapes}` };
   }
@@ -259,7 +259,8 @@ export class Play extends Player {
     const { game, engine } = this;
     if (game.beam === undefined) game.beam = tearingBeam(engine, game);
     if (game.beam === null) {
-      return 'By no beam here does this game tear: its pictures are done before the next one comes.';
+      return 'By no beam here does this game tear: its pictures are done before the next one '
+        + 'comes.';
     }
     return `It tears with a beam ${game.beam} times as slow, and strobes ignored while it draws.`;
   }
@@ -440,7 +441,8 @@ export class Play extends Player {
 
   /* An instruction, by its label, or as the driver's, if the game has it. */
   instructionText(at) {
-    return `${this.hasDriver && isDriver(at) ? 'the driver, ' : ''}${this.program.where(at)}: ${this.program.at(at)}`;
+    const by = this.hasDriver && isDriver(at) ? 'the driver, ' : '';
+    return `${by}${this.program.where(at)}: ${this.program.at(at)}`;
   }
 
   /* Which instruction wrote the first early byte. */

@@ -114,8 +114,8 @@ export class TapedArcade extends KeptArcade {
   }
 }
 
-/* What the beginning of a game presses by itself: the button, from which second on, and until which.
- */
+/* What the beginning of a game presses by itself: the button, from which second on, and until
+ * which. */
 export const BEGINNING = [['coin', 0.4, 0.6], ['start1', 1, 1.3]];
 
 export function pressBeginning(arcade) {

@@ -15,9 +15,9 @@ export function sinceOf({ wires, runs }) {
     : { at: runs.since.at, text: ` since the wire was ${wire.cut ? 'cut' : 'mended'}` };
 }
 
-/* What is counted of what is shown, of the runs that began since then; and in `at` which event shows
- * each verdict: a torn picture, or what contradicts, the first early byte, the newest run that was
- * abandoned. */
+/* What is counted of what is shown, of the runs that began since then; and in `at` which event
+ * shows each verdict: a torn picture, or what contradicts, the first early byte, the newest run
+ * that was abandoned. */
 export function countsOf(shown, since) {
   const { pictures, runs, signs, left, unread = 0 } = shown;
   const isSince = ({ from }) => from >= since.at;

@@ -425,7 +425,8 @@ async function testAbandoned() {
     const [{ className }] = document.getElementById('left').children;
     return className + document.getElementById('left').textContent;
   })()`);
-  expect('what strobes cut short is bad', /^badAbandoned: [1-9][0-9]* runs, as a strobe came before HALT\.$/,
+  expect('what strobes cut short is bad',
+    /^badAbandoned: [1-9][0-9]* runs, as a strobe came before HALT\.$/,
     await left());
   await runSeed(1, 'ignored');
   expect('ignored strobes let pictures be torn', / [1-9][0-9]* torn .* 0 runs abandoned/,
@@ -830,7 +831,7 @@ const DROPS = [
   ['bad_outline.sketch', 'house: 60,0 60,x\n', /^Of its outlines, .*: no point: '60,x'$/, true],
   ['judge.log', 'reset 0.1\npicture 0.2 0.1 0 6C71\n', /^This is what make judge saw /, true],
   ['bus.log', 'read halted\nwrote 001 E0\nsent\n', /^This is what a driver did, /, true],
-  ['pictures', new Uint8Array(5 * 2048), /^This is 5 times 2,048 bytes: as make judge keeps /, true],
+  ['pictures', new Uint8Array(5 * 2048), /^This is 5 times 2,048 bytes: as make judge /, true],
   ['some.rom', Buffer.alloc(2048, 0xD0), /^The ROM was loaded, /, false],
   ['a.trace', 'tick 3\n', /^3 events happened\.$/, false],
   ['bad.trace', 'tick 3\ntick x\n', /^The trace is refused: dvg: syntax at line 2$/, true],
@@ -882,7 +883,7 @@ async function testUnjudged() {
     'zero.log': [zeroAlone(whole), /^\/No picture to judge: each run .* In time\/good: /],
     'early.log': [zeroAlone(torn), /^\/No picture to judge: each run .* Early\/early: /],
     'open.log': [torn.replace(/^halted\n/gm, ''), /^\/No picture is finished yet\. Early\/early: /],
-    'none.log': [torn.replace(/^(low|fetched) .*\n/gm, ''), /^\/No picture to judge: each run .* \/$/],
+    'none.log': [torn.replace(/^(low|fetched) .*\n/gm, ''), /^\/No picture to judge: .* \/$/],
     'short.log': ['started\nlow 1FF 05\nhalted\n', /^Whole\/good: 1 picture\. /],
   };
   for (const [name, [log, wanted]] of Object.entries(logs)) {
@@ -1814,7 +1815,7 @@ async function testTwice() {
 }
 
 // Without a click it tears within seven seconds of the boards' own time; sound is off until it is
-// asked for; and a game that reads more than a finger on a picture can press has buttons on a phone.
+// asked for; and a game that reads more than a finger on a picture presses has buttons on a phone.
 async function testBothPads() {
   await inTabOf(FAST_TIME, async () => {
     await tab.size(400, 800, true);

@@ -1226,7 +1226,8 @@ function judgedOf({ play, parts }, bytes, seconds) {
 // Nothing is green of a program that never ran one instruction, or that draws no frame: one that
 // only waits, and one that stores and strobes, though word zero is no jump.
 function testNothingYet() {
-  const stage = playOnStage(), none = ['/No picture is finished yet. ', '/No run drew a half yet. '];
+  const stage = playOnStage();
+  const none = ['/No picture is finished yet. ', '/No run drew a half yet. '];
   const nothing = [...none, '/No run is finished yet. '];
   expect('no opcode', nothing, judgedOf(stage, programOf([0xFF]), 1));
   expect('it stopped', true, /stopped: /.test(stage.parts['run-counts'].textContent));
@@ -1269,7 +1270,7 @@ const ANSWERS = [
   [{ game: 'asteroid_game', wire: 'cut', beam: '2' },
     /^It goes on: some runs are abandoned, the first of them run [0-9]+, as a strobe /],
   [{ game: 'bat', wire: 'cut', beam: '2' },
-    /^It goes on: it reads "done" at once, and yet each run .* By no beam here does this game tear/],
+    /^It goes on: it reads "done" at once, and yet each run .* By no beam here does this game /],
   [{ game: 'asteroid_game', beam: '2' },
     /^It goes on: each run came to HALT before the next strobe, as the wire is whole\.$/],
   [{ game: 'test_rom', wire: 'cut' }, /^It goes dark: each strobe /],
@@ -1330,8 +1331,8 @@ function testMoments() {
   expect('pictures', true, images.size > 20);
 }
 
-// A store of the game's own is kept apart from those of the driver, and told beside a tear; with the
-// wire whole it is the cause.
+// A store of the game's own is kept apart from those of the driver, and told beside a tear; with
+// the wire whole it is the cause.
 function testOwnStore() {
   const { program: bytes, shapes } = caveOfPage(), arcade = new KeptArcade(engine, bytes, shapes);
   const { past, generator } = arcade;
@@ -1346,7 +1347,8 @@ function testOwnStore() {
   expect('which instruction stored', [0x6C77, after], [past.own.by, past.own.place]);
   expect('it tore the picture', 0x6C77, past.torn?.byte.by);
   arcade.free();
-  const { play, parts } = playOnStage(), torn = { own: { by: 0x6C77, at: HERTZ }, byte: { by: 0x6969 } };
+  const { play, parts } = playOnStage();
+  const torn = { own: { by: 0x6C77, at: HERTZ }, byte: { by: 0x6969 } };
   play.openState({ game: 'bat' });
   expect('it is the cause', true, /by 6C77.*: that store is the cause\.$/.test(play.ownText(torn)));
   parts['game-wire'].setAttribute('aria-pressed', 'true');
@@ -1474,11 +1476,12 @@ function testFaultsOfFiles(whole, rom, sockets) {
     ['a dump beside a game', [whole, dump], 'h1.dump has 4,096 bytes: a socket has 2,048.']]) {
     expect(`${what}: its length`, wanted, lengthFault(files));
   }
-  const random = { name: 'game.program', bytes: Uint8Array.from({ length: 6144 }, (_, k) => k * 7) };
+  const random = { name: 'game.program',
+    bytes: Uint8Array.from({ length: 6144 }, (_, k) => k * 7) };
   const other = { ...random, name: 'ram' }, leads = [...other.bytes.slice(-6, -2)].map((byte) => (
     byte.toString(16).toUpperCase().padStart(2, '0')));
-  const nowhere = ({ name }) => `${name} has the length of a program, but its vectors lead nowhere: `
-    + `by its last six bytes an NMI goes to ${leads[1]}${leads[0]}, and a reset to ${leads[3]}`
+  const nowhere = ({ name }) => `${name} has the length of a program, but its vectors lead `
+    + `nowhere: by its last six bytes an NMI goes to ${leads[1]}${leads[0]}, and a reset to ${leads[3]}`
     + `${leads[2]}. Both must be of its own code.`;
   for (const [what, files, wanted] of [['a game', [whole, rom], ''], ['no game', [random],
     nowhere(random)], ['beside a ROM', [other, rom], nowhere(other)],

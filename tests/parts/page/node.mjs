@@ -1056,7 +1056,8 @@ const TESTS = [
   testTwin, testSchedules, testCutWire, testMended, testOneHalf, testMomentLogs,
   testJudged, testRuns, testProportions, testHalves, testLongTrace, testAdvice, testDrafts,
   testRoms,
-  testMoments, testLinks, testFiles, testRecordings, testDumps, testDriverTexts, testBuses, testLists,
+  testMoments, testLinks, testFiles, testRecordings, testDumps, testDriverTexts, testBuses,
+  testLists,
   testSketches, testControls, testTears, testLessons, testLessonColors, testLessonPage, testCases,
   testSketchCases,
 ];
