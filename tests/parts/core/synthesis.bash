@@ -1,5 +1,5 @@
-# What core_top asks yosys of the structure of a circuit: whether synthesis left it as it is, and
-# whether each bit that crosses between clocks does so by two flip-flops.
+# What core_top asks yosys: whether synthesis left a circuit as it is, whether each bit that crosses
+# between clocks does so by two flip-flops, and whether dvg_board obeys laws of another wording.
 
 # Copies the Verilog of core/ into a folder, where each memory of dvg_board and dvg_vectors is a
 # part without an inside. So what is proved of them holds of any memory.
@@ -117,4 +117,41 @@ run_crossings() {
         's/{closed, closed_now} <= {closed_now, /{closed, closed_now} <= {~pmod1b, /'
     find_crossing_mistake 'one flip-flop for a sample' pocket top/pocket.v \
         's/turned\[2\] != turned\[1\]/turned[1] != turned[0]/'
+}
+
+# Whether z3 finds that dvg_board obeys the laws of laws.v, in the first ten clocks and by induction
+# over four: the module's file.
+try_laws() {
+    local made=$work/laws
+    sed -e 's/^    input  wire  *reset,/    input wire [10:0] spot, output wire [7:0] held,\n&/' \
+        -e 's/^endmodule/    assign held = ram[spot];\n&/' "$1" >"$made.v" &&
+        yosys -q -p "read_verilog -formal $made.v $tests/parts/core/laws.v
+            prep -top core_laws -flatten; memory_nordff; async2sync; dffunmap
+            write_smt2 -wires $made.smt2" &&
+        yosys-smtbmc -s z3 -t 10 "$made.smt2" && yosys-smtbmc -s z3 -i -t 4 "$made.smt2"
+}
+
+# A mistake in dvg_board.v is refuted: its name, and the edit.
+refute() {
+    sed "$2" "$core/dvg_board.v" >"$work/refuted.v"
+    expect "a mistake is planted: $1" \
+        [ "$(cmp -s "$core/dvg_board.v" "$work/refuted.v"; echo $?)" = 1 ]
+    try_laws "$work/refuted.v" >"$work/said" 2>&1
+    expect "the laws refute it: $1" grep -q 'Assert failed' "$work/said"
+}
+
+run_laws() {
+    expect 'dvg_board obeys laws.v' try_laws "$core/dvg_board.v" && echo 'laws of dvg_board: passed'
+    plants || return 0
+    refute 'a strobe in a reset counts' 's/starting <= sends \&\& !reset/starting <= sends/'
+    refute 'a strobe before a reset counts' 's/starts = starting \&\& !reset/starts = starting/'
+    refute 'a byte is read while it is held' 's/ \&\& !hold / /'
+    refute 'a byte is read beside an access' 's/ \&\& !on_ram;/;/'
+    refute 'no byte is read beside any access' 's/pending <= asks/pending <= asks \&\& !access/'
+    refute 'two bytes one after the other' 's/|| pending;/;/'
+    refute 'a write is lost in a reset' 's/if (writes) ram/if (writes \&\& !reset) ram/'
+    refute 'another half answers' "s/5'b01000/5'b01001/"
+    refute 'the flag is turned around' 's/flag ? {ran/flag ? {!ran/'
+    refute 'the flag is at 2003' "s/16'h2002/16'h2003/"
+    refute 'the flag of this clock' "s/flag ? {ran/flag ? {!halted/"
 }
