@@ -4,9 +4,9 @@
     pins.py LPF LPF_OF_MAKER PCF PCF_OF_MAKER
 
 Each pin of LPF must be where the maker's file has the one of that name, but fire1, which is its
-btn[1], and must have all that the maker's file says of it: its IOBUF and its frequency. What LPF
-says of the whole chip must be the maker's, too. Each pin of PCF must be where the maker's file has
-the one that NAMES tells. Prints how many there are, or what differs (status 1)."""
+btn[1], and must have all that the maker's file says of it: its IOBUF and its frequency. Each pin
+of PCF must be where the maker's file has the one that NAMES tells. Prints how many there are, or
+what differs (status 1)."""
 
 import re
 import sys
@@ -26,10 +26,9 @@ def read_lpf(path):
     """By the kind of line and the name what it says."""
     found = {}
     for line in lines_of(path):
-        match = re.fullmatch(
-            r'(LOCATE COMP|IOBUF PORT|FREQUENCY PORT|SYSCONFIG) (?:"(\S+)" )?(.*);', line)
+        match = re.fullmatch(r'(LOCATE COMP|IOBUF PORT|FREQUENCY PORT) "(\S+)" (.*);', line)
         if match:
-            found.setdefault((match[1], match[2]), []).extend(match[3].split())
+            found[match[1], match[2]] = match[3].split()
     return found
 
 
@@ -42,7 +41,7 @@ def read_pcf(path):
 
 def main(lpf, maker_lpf, pcf, maker_pcf):
     own, maker = read_lpf(lpf), read_lpf(maker_lpf)
-    named = {name: (name or "").replace("fire1", "btn[1]") or None for _, name in own}
+    named = {name: name.replace("fire1", "btn[1]") for _, name in own}
     wanted = {(kind, name): said for name, called in named.items()
               for (kind, maker_name), said in maker.items() if maker_name == called}
     wrong = [f"{kind} {name}: {own.get((kind, name))}, of the maker {wanted.get((kind, name))}"

@@ -55,7 +55,8 @@ run_synthesis() {
         's/ready <= rests \&\& !going/ready <= rests/'
     find_synthesis_mistake 'the same on the other chip' ecp5 dvg_pace dvg_pace.v \
         's/ready <= rests \&\& !going/ready <= rests/'
-    find_synthesis_mistake 'another sign' ecp5 dvg_motion dvg_motion.v 's/back_x <= dx_sign/back_x <= dy_sign/'
+    find_synthesis_mistake 'another sign' ecp5 dvg_motion dvg_motion.v \
+        's/back_x <= dx_sign/back_x <= dy_sign/'
 }
 
 # Writes the gates of a top as JSON: the file, the top, its files, and macros. ROMs are 0.
