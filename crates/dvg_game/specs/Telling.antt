@@ -11,10 +11,11 @@ use Rattle.dvg_game_check.specs.Rules.{HasBytes, notes_in}
 use Rattle.dvg_game_check.specs.Verdicts.{Means}
 use Rattle.dvg_game_check.specs.declared.judging.Judged.{Judged}
 use Rattle.dvg_game_check.specs.declared.judging.Verdict.{Verdict}
-use Rattle.dvg_game_check.specs.declared.judging.Verdict.TheVariants.{Keeps, Unseen, Refused}
+use Rattle.dvg_game_check.specs.declared.judging.Verdict.TheVariants.{Keeps, Unseen, Refused, Unsettled}
 use Rattle.dvg_game_check.specs.declared.known.Unseen.{Unseen as GameUnseen}
 use Rattle.dvg_game_check.specs.declared.known.Unseen.TheVariants.{At as unseen_at}
 use Rattle.dvg_game_check.specs.declared.note.Note.{Note}
+use Rattle.dvg_game_check.specs.declared.program.Refusal.{Refusal}
 use Rattle.dvg_game_check.specs.declared.program.Refusal.TheVariants.{Driver, Boot}
 use Rattle.dvg_game.specs.declared.engine.TheConstants.{GAME_BYTES}
 use Rattle.dvg_game.specs.declared.told.PlaceLine.{PlaceLine}
@@ -33,6 +34,7 @@ opening_of (Keeps start) = codes "no run of these bytes tears a picture" ++ 10 �
 opening_of (Unseen start why) =
     codes "keeps to the rules, but not all that it offers and puts is seen: it may tear a picture" ++ 10 ∷ []
 opening_of (Refused why) = codes "refused: "
+opening_of (Unsettled why) = codes "not accepted: "
 
 -- a line of an instruction begins with its address, a colon and a space
 abbrev pub IsLineOf : {A : Type 0} → PlaceLine A → Type 0
@@ -62,13 +64,18 @@ abbrev pub IsToldAs : GameUnseen → List ℕ → Type 0
 IsToldAs (unseen_at at gap) told = told ≡ at ∷ []
 IsToldAs why told = Unit {0}
 
+-- of which instructions a line is told, where this is against the program
+abbrev pub AreToldFor : (bytes : List ℕ) → List (Option Note) → Refusal → List ℕ → Type 0
+AreToldFor bytes notes Driver told = told ≡ []
+AreToldFor bytes notes (Boot at) told = told ≡ at ∷ []
+AreToldFor bytes notes why told = TellBroken bytes notes told
+
 -- of which instructions a line is told
 abbrev pub AreToldOf : (bytes : List ℕ) → List (Option Note) → Verdict → List ℕ → Type 0
 AreToldOf bytes notes (Keeps start) told = told ≡ []
 AreToldOf bytes notes (Unseen start why) told = IsToldAs why told
-AreToldOf bytes notes (Refused Driver) told = told ≡ []
-AreToldOf bytes notes (Refused (Boot at)) told = told ≡ at ∷ []
-AreToldOf bytes notes (Refused why) told = TellBroken bytes notes told
+AreToldOf bytes notes (Refused why) told = AreToldFor bytes notes why told
+AreToldOf bytes notes (Unsettled why) told = AreToldFor bytes notes why told
 
 -- what is told of a program, by the notes that the judge gives back
 pub record IsToldOf {A : Type 0} (bytes R : List ℕ) (told : Told A) : Type 0 where

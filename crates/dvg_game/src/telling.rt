@@ -1,7 +1,7 @@
 //! What is told of a program that was judged.
 ghost use Rattle.std.specs.Prelude.{◌≡◌, ◌∷◌, [], All, IfOk, length, map};
 ghost use Rattle.dvg_game_check.specs.Why.{AreBroken};
-ghost use Rattle.dvg_game.specs.Telling.{AreToldOf, IsLineOf, TellBroken, addresses};
+ghost use Rattle.dvg_game.specs.Telling.{AreToldFor, AreToldOf, IsLineOf, TellBroken, addresses};
 ghost use Rattle.dvg_game.specs.Telling.{IsToldAs};
 
 use crate::bringer::{OFFER, PUT};
@@ -211,6 +211,26 @@ fn tell_rules<A: Allocator + Copy>(
     })
 }
 
+// Returns what is told of a program that isn't accepted, for this reason.
+fn tell_refused<A: Allocator + Copy>(
+    alloc: A,
+    rom: &[u8],
+    notes: &[Option<Note>],
+    why: Refusal,
+) -> Result<Parts<A>, OutOfMemory>
+    requires bytes { length rom.now ≡ BYTES }
+    requires notes { length notes.now ≡ PLACES }
+    ensures at { IfOk result (λ parts.
+        AreToldFor rom.now notes.now why (addresses parts.lines.items)) }
+    ensures form { IfOk result (λ parts. All IsLineOf parts.lines.items) }
+{
+    match why {
+        Refusal::Driver => tell_driver(alloc),
+        Refusal::Boot(at) => tell_unbooted(alloc, &Program::new(rom, notes), at),
+        _ => tell_rules(alloc, rom, notes),
+    }
+}
+
 // Returns what is told of a program that was judged so.
 fn parts_of<A: Allocator + Copy>(
     alloc: A,
@@ -228,9 +248,8 @@ fn parts_of<A: Allocator + Copy>(
     match judged.verdict {
         Verdict::Keeps(_) => tell_kept(alloc, &program, judged),
         Verdict::Unseen(_, why) => tell_gaps(alloc, &program, judged, why),
-        Verdict::Refused(Refusal::Driver) => tell_driver(alloc),
-        Verdict::Refused(Refusal::Boot(at)) => tell_unbooted(alloc, &program, at),
-        Verdict::Refused(_) => tell_rules(alloc, rom, notes),
+        Verdict::Refused(why) => tell_refused(alloc, rom, notes, why),
+        Verdict::Unsettled(why) => tell_refused(alloc, rom, notes, why),
     }
 }
 

@@ -37,6 +37,7 @@ impl<A: Allocator> Told<A> {
                 it may tear a picture\n"
             }
             Verdict::Refused(_) => b"refused: ",
+            Verdict::Unsettled(_) => b"not accepted: ",
         }
     }
 }

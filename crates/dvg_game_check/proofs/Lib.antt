@@ -8,3 +8,11 @@ pub mod Ors
 pub mod Knows
 pub mod Offers
 pub mod Listed
+pub mod Suited
+pub mod Onwards
+pub mod Steps
+pub mod States
+pub mod Games
+pub mod Begins
+pub mod Pushes
+pub mod Barred

@@ -6,3 +6,4 @@ pub mod Verdicts
 pub mod Brought
 pub mod Offered
 pub mod Why
+pub mod Least

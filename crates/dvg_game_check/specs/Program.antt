@@ -44,6 +44,13 @@ BootsNowhere bytes =
 unfoldable pub has_driver : (rom : ℕ → ℕ) → Bool
 has_driver rom = stand_at code rom 0x6800
 
+abbrev pub HasDriver : (bytes : List ℕ) → Type 0
+HasDriver bytes = (rom : ℕ → ℕ) → HasBytes bytes rom → has_driver rom ≡ true
+
+-- whatever the notes: none of the ROMs with these bytes is accepted
+abbrev pub HasNone : (bytes : List ℕ) → Type 0
+HasNone bytes = (rom : ℕ → ℕ) (start : ℕ) (notes : Notes) → HasBytes bytes rom → accepts rom start notes ≡ false
+
 -- what is against a program
 abbrev pub IsWhy : (bytes : List ℕ) → List (Option Note) → Refusal → Type 0
 IsWhy bytes notes (Boot at) = BootsNowhere bytes

@@ -2,6 +2,7 @@
 #![tactic(auto)]
 
 mod follow;
+mod forced;
 mod gather;
 mod judging;
 mod kind;

@@ -1,9 +1,9 @@
 //! The check of a program, with notes of it.
-ghost use Rattle.std.specs.Prelude.{◌≡◌, ℕ, ◌+◌, ◌<◌, ◌≤◌, MatchOption, MatchResult, length, false};
+ghost use Rattle.std.specs.Prelude.{◌≡◌, ℕ, ◌+◌, ◌<◌, ◌≤◌, List, MatchOption, MatchResult, Option, length, false};
 ghost use Rattle.dvg_game_words.specs.Code.{code};
 ghost use Rattle.dvg_game_words.specs.Checker.{fine_at, interrupts, noted, stand_at, starts};
 ghost use Rattle.dvg_game_check.specs.Program.{AreFine, BootsNowhere, BootsTo, IsAccepted};
-ghost use Rattle.dvg_game_check.specs.Program.{IsWhy, has_driver};
+ghost use Rattle.dvg_game_check.specs.Program.{HasDriver, HasNone, IsWhy, has_driver};
 ghost use Rattle.dvg_game_check.specs.Program.{IsBadAt, IsRefused};
 ghost use Rattle.dvg_game_check.specs.Rules.{HasBytes, notes_in};
 
@@ -192,6 +192,43 @@ fn has_driver(rom: &[u8]) -> bool
     stands(rom, 0x6800, DRIVER)
 }
 
+/// Returns why a program that starts there, behind the driver, isn't accepted with these notes.
+pub fn check_notes(rom: &[u8], notes: &[Option<Note>], start: u32) -> Option<Refusal>
+    requires bytes { length rom.now ≡ BYTES }
+    requires notes { length notes.now ≡ PLACES }
+    requires driver { HasDriver rom.now }
+    requires boots { BootsTo rom.now start }
+    ensures { MatchOption result (IsAccepted rom.now notes.now start)
+        (λ why. IsRefused rom.now notes.now × IsWhy rom.now notes.now why) }
+{
+    match first_bad(rom, notes) {
+        Some(at) => return Some(Refusal::At(at)),
+        None => {}
+    }
+    if !starts_fine(notes, start) {
+        return Some(Refusal::Start);
+    }
+    if !interrupts_fine(notes, u32::from(word_at(rom, 0x7FFA))) {
+        return Some(Refusal::Nmi);
+    }
+    None
+}
+
+/// Returns where a program starts, behind the driver, or why no notes of it are accepted.
+pub fn check_start(rom: &[u8]) -> Result<u32, Refusal>
+    requires { length rom.now ≡ BYTES }
+    ensures { MatchResult result (λ start. HasDriver rom.now × BootsTo rom.now start)
+        (λ why. HasNone rom.now × ((notes : List (Option Note)) → IsWhy rom.now notes why)) }
+{
+    if !has_driver(rom) {
+        return Err(Refusal::Driver);
+    }
+    match boot(rom) {
+        Ok(start) => Ok(start),
+        Err(at) => Err(Refusal::Boot(at)),
+    }
+}
+
 /// Returns where a program starts that is accepted with these notes, or why it isn't.
 pub fn check_rules(rom: &[u8], notes: &[Option<Note>]) -> Result<u32, Refusal>
     requires bytes { length rom.now ≡ BYTES }
@@ -199,22 +236,12 @@ pub fn check_rules(rom: &[u8], notes: &[Option<Note>]) -> Result<u32, Refusal>
     ensures { MatchResult result (λ start. IsAccepted rom.now notes.now start)
         (λ why. IsRefused rom.now notes.now × IsWhy rom.now notes.now why) }
 {
-    if !has_driver(rom) {
-        return Err(Refusal::Driver);
-    }
-    let start = match boot(rom) {
+    let start = match check_start(rom) {
         Ok(start) => start,
-        Err(at) => return Err(Refusal::Boot(at)),
+        Err(why) => return Err(why),
     };
-    match first_bad(rom, notes) {
-        Some(at) => return Err(Refusal::At(at)),
-        None => {}
+    match check_notes(rom, notes, start) {
+        Some(why) => Err(why),
+        None => Ok(start),
     }
-    if !starts_fine(notes, start) {
-        return Err(Refusal::Start);
-    }
-    if !interrupts_fine(notes, u32::from(word_at(rom, 0x7FFA))) {
-        return Err(Refusal::Nmi);
-    }
-    Ok(start)
 }

@@ -75,6 +75,7 @@ abbrev pub of_game : {A : Type 0} → GameVerdict → Done A
 of_game (games.Keeps start) = Good
 of_game (games.Unseen start why) = Unseen
 of_game (games.Refused why) = Bad
+of_game (games.Unsettled why) = Bad
 
 -- of what is told of a game
 abbrev pub of_told : {A : Type 0} → Told A → Done A

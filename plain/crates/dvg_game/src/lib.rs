@@ -1877,6 +1877,20 @@ fn tell_rules<A: Allocator + Copy>(
     })
 }
 
+// Returns what is told of a program that isn't accepted, for this reason.
+fn tell_refused<A: Allocator + Copy>(
+    alloc: A,
+    rom: &[u8],
+    notes: &[Option<Note>],
+    why: Refusal,
+) -> Result<Parts<A>, OutOfMemory> {
+    match why {
+        Refusal::Driver => tell_driver(alloc),
+        Refusal::Boot(at) => tell_unbooted(alloc, &Program::new(rom, notes), at),
+        _ => tell_rules(alloc, rom, notes),
+    }
+}
+
 // Returns what is told of a program that was judged so.
 fn parts_of<A: Allocator + Copy>(
     alloc: A,
@@ -1888,9 +1902,8 @@ fn parts_of<A: Allocator + Copy>(
     match judged.verdict {
         Verdict::Keeps(_) => tell_kept(alloc, &program, judged),
         Verdict::Unseen(_, why) => tell_gaps(alloc, &program, judged, why),
-        Verdict::Refused(Refusal::Driver) => tell_driver(alloc),
-        Verdict::Refused(Refusal::Boot(at)) => tell_unbooted(alloc, &program, at),
-        Verdict::Refused(_) => tell_rules(alloc, rom, notes),
+        Verdict::Refused(why) => tell_refused(alloc, rom, notes, why),
+        Verdict::Unsettled(why) => tell_refused(alloc, rom, notes, why),
     }
 }
 
@@ -1956,6 +1969,7 @@ impl<A: Allocator> Told<A> {
                 it may tear a picture\n"
             }
             Verdict::Refused(_) => b"refused: ",
+            Verdict::Unsettled(_) => b"not accepted: ",
         }
     }
 }

@@ -212,6 +212,190 @@ pub fn leads(notes: &[Option<Note>], to: u32, change: Change, now: &Note) -> boo
     }
 }
 }
+mod forced {
+//! Whether a program is refused whatever its notes: by what is found of all that are accepted.
+use crate::follow::{FIRST, PLACES, all_serve, implies, same_level};
+use crate::kind::{Kind, Operand, Sets, kind_of, size};
+use crate::note::{Level, Note};
+use crate::reach::{Test, reached};
+use crate::rules::{UNCHANGED, byte_at, goes_on, is_driver, is_entry, target, word_at};
+
+// Returns whether no code may stand there, or what is found there is of another level or depth.
+fn is_barred(notes: &[Option<Note>], to: u32, level: Level, depth: u32) -> bool {
+    if to < FIRST || FIRST + PLACES <= to {
+        return true;
+    }
+    match &notes[(to - FIRST) as usize] {
+        None => false,
+        Some(new) => !(same_level(new.level, level) && u32::from(new.depth) == depth),
+    }
+}
+
+// Returns whether more bytes are pushed than may be, or the NMI does more instructions.
+fn exceeds(now: &Note) -> bool {
+    let pushed = u32::from(now.room) + u32::from(now.depth);
+    match now.level {
+        Level::Nmi => 29 < pushed || 800 < now.fuel,
+        Level::Main | Level::Sub => 223 < pushed,
+    }
+}
+
+// Returns whether the driver may be called there, for all but the room.
+fn may_enter(to: u16, now: &Note) -> bool {
+    is_entry(to)
+        && (!same_level(now.level, Level::Nmi)
+            && ((to == 0x6800 || now.awake) && implies(goes_on(to), !now.blank)))
+}
+
+// Returns whether no jump like this is fine.
+fn jump_forced(notes: &[Option<Note>], word: u16, reset: u16, now: &Note) -> bool {
+    if word == reset {
+        return same_level(now.level, Level::Nmi);
+    }
+    if is_driver(word) {
+        if !may_enter(word, now) {
+            return true;
+        }
+        return !(same_level(now.level, Level::Sub) && now.depth == 0);
+    }
+    is_barred(notes, u32::from(word), now.level, u32::from(now.depth))
+}
+
+// Returns whether no call like this is fine.
+fn call_forced(notes: &[Option<Note>], word: u16, at: u32, now: &Note) -> bool {
+    let depth = u32::from(now.depth);
+    if is_driver(word) {
+        if !may_enter(word, now) {
+            return true;
+        }
+        return is_barred(notes, at + 3, now.level, depth);
+    }
+    if same_level(now.level, Level::Nmi) {
+        return true;
+    }
+    if is_barred(notes, u32::from(word), Level::Sub, 0) {
+        return true;
+    }
+    is_barred(notes, at + 3, now.level, depth)
+}
+
+// Returns whether no branch like this is fine.
+fn branch_forced(notes: &[Option<Note>], low: u8, at: u32, now: &Note) -> bool {
+    let depth = u32::from(now.depth);
+    if is_barred(notes, target(at, low), now.level, depth) {
+        return true;
+    }
+    is_barred(notes, at + 2, now.level, depth)
+}
+
+// Returns whether no read like this is fine.
+fn read_forced(
+    notes: &[Option<Note>],
+    sets: Sets,
+    place: Operand,
+    low: u8,
+    word: u16,
+    at: u32,
+    now: &Note,
+) -> bool {
+    if !reached(place, low, word, Test::NoStrobe) {
+        return true;
+    }
+    is_barred(
+        notes,
+        at + u32::from(size(place)),
+        now.level,
+        u32::from(now.depth),
+    )
+}
+
+// Returns whether no store like this is fine.
+fn store_forced(
+    notes: &[Option<Note>],
+    place: Operand,
+    low: u8,
+    word: u16,
+    at: u32,
+    now: &Note,
+) -> bool {
+    if !reached(place, low, word, Test::Writable(now.level)) {
+        return true;
+    }
+    is_barred(
+        notes,
+        at + u32::from(size(place)),
+        now.level,
+        u32::from(now.depth),
+    )
+}
+
+// Returns whether an instruction isn't fine, whatever its notes, by its kind and the bytes behind
+// its opcode.
+fn forced_with(
+    kind: Kind,
+    notes: &[Option<Note>],
+    low: u8,
+    word: u16,
+    reset: u16,
+    at: u32,
+    now: &Note,
+) -> bool {
+    let (level, depth) = (now.level, u32::from(now.depth));
+    match kind {
+        Kind::Quiet(_, bytes) => is_barred(notes, at + u32::from(bytes), level, depth),
+        Kind::Reads(sets, place) => read_forced(notes, sets, place, low, word, at, now),
+        Kind::Transfer(_, _) => is_barred(notes, at + 1, level, depth),
+        Kind::Stores(place) => store_forced(notes, place, low, word, at, now),
+        Kind::Push | Kind::PushFlags => is_barred(notes, at + 1, level, depth + 1),
+        Kind::Pull | Kind::PullFlags => depth == 0 || is_barred(notes, at + 1, level, depth - 1),
+        Kind::Branch => branch_forced(notes, low, at, now),
+        Kind::Jump => jump_forced(notes, word, reset, now),
+        Kind::Call => call_forced(notes, word, at, now),
+        Kind::Return => !(same_level(level, Level::Sub) && depth == 0),
+        Kind::Finish => {
+            !(same_level(level, Level::Nmi) && (depth == 0 && all_serve(UNCHANGED, now.held)))
+        }
+        Kind::Wild => true,
+    }
+}
+
+// Returns whether nothing that is accepted has a note at a place for which this one was made.
+fn note_forced(rom: &[u8], notes: &[Option<Note>], at: u32, now: &Note) -> bool {
+    if exceeds(now) {
+        return true;
+    }
+    let kind = kind_of(byte_at(rom, at));
+    let low = byte_at(rom, at + 1);
+    let word = word_at(rom, at + 1);
+    let reset = word_at(rom, 0x7FFC);
+    forced_with(kind, notes, low, word, reset, at, now)
+}
+
+// Returns whether nothing that is accepted has a note at a place for which one was made.
+fn place_forced(rom: &[u8], notes: &[Option<Note>], at: u32) -> bool {
+    match &notes[(at - FIRST) as usize] {
+        None => false,
+        Some(now) => note_forced(rom, notes, at, now),
+    }
+}
+
+/// Returns whether no notes of a program that starts at `start` are accepted, by what is found of
+/// all that are.
+pub fn is_forced(rom: &[u8], notes: &[Option<Note>], start: u32) -> bool {
+    if is_barred(notes, start, Level::Main, 0) {
+        return true;
+    }
+    if is_barred(notes, u32::from(word_at(rom, 0x7FFA)), Level::Nmi, 0) {
+        return true;
+    }
+    for i in 0..PLACES {
+        if place_forced(rom, notes, FIRST + i) {
+            return true;
+        }
+    }
+    false
+}
+}
 mod gather {
 //! Makes notes of what a program brings. Nothing is promised of them but how many there are: the
 //! check refuses what is wrong.
@@ -364,12 +548,13 @@ mod judging {
 //! The judge of a program.
 use std::prelude::*;
 
+use crate::forced::is_forced;
 use crate::gather::{brought_to, ways};
 use crate::known::{Unseen, brings_gap};
-use crate::maker::make;
+use crate::maker::{make, unnoted};
 use crate::note::Note;
 use crate::offered::{bad_table, bad_word};
-use crate::program::{Refusal, boot, check_rules};
+use crate::program::{Refusal, check_notes, check_start};
 use dvg_mem::Rom;
 use std::alloc::{AllocError, Allocator, Global};
 
@@ -380,8 +565,10 @@ pub enum Verdict {
     Keeps(u32),
     /// It keeps the rules, but not all that it offers and puts is seen, and accepted.
     Unseen(u32, Unseen),
-    /// It is refused, with the notes that were made.
+    /// It is refused, whatever notes of it are tried. Why is said with those that were made.
     Refused(Refusal),
+    /// It isn't accepted with the notes that were made. Nothing is said of others.
+    Unsettled(Refusal),
 }
 
 /// What is said of a program, and of what: nobody has to trust how these were made.
@@ -422,27 +609,48 @@ fn say<B: Allocator>(
     Verdict::Keeps(start)
 }
 
+// Returns a verdict of which there are no lists.
+fn unlisted<A: Allocator + Copy>(
+    alloc: A,
+    verdict: Verdict,
+    notes: Vec<Option<Note>, A>,
+) -> Judged<A> {
+    Judged {
+        verdict,
+        notes,
+        ways: Vec::new(alloc),
+        tables: Vec::new(alloc),
+        words: Vec::new(alloc),
+    }
+}
+
+// Returns what is to be said of a program that isn't accepted with the notes that were made.
+fn refuse(rom: &[u8], notes: &[Option<Note>], start: u32, why: Refusal) -> Verdict {
+    if is_forced(rom, notes, start) {
+        Verdict::Refused(why)
+    } else {
+        Verdict::Unsettled(why)
+    }
+}
+
 /// Returns what is to be said of a program, with the vector ROM of its shapes.
 pub fn judge<A: Allocator + Copy, B: Allocator>(
     alloc: A,
     rom: &[u8],
     vectors: &Rom<B>,
 ) -> Result<Judged<A>, AllocError> {
-    let start = match boot(rom) {
+    let start = match check_start(rom) {
         Ok(start) => start,
-        Err(_) => 0,
+        Err(why) => return Ok(unlisted(alloc, Verdict::Refused(why), unnoted(alloc)?)),
     };
     let notes = make(alloc, rom, start)?;
     let all = notes.as_slice();
-    match check_rules(rom, all) {
-        Err(why) => Ok(Judged {
-            verdict: Verdict::Refused(why),
-            notes,
-            ways: Vec::new(alloc),
-            tables: Vec::new(alloc),
-            words: Vec::new(alloc),
-        }),
-        Ok(start) => {
+    match check_notes(rom, all, start) {
+        Some(why) => {
+            let verdict = refuse(rom, all, start, why);
+            Ok(unlisted(alloc, verdict, notes))
+        }
+        None => {
             let ways = ways(alloc, rom, all, start)?;
             let found = ways.as_slice();
             let tables = brought_to(alloc, rom, all, found, 0x68FE)?;
@@ -983,8 +1191,8 @@ use crate::kind::kind_of;
 use crate::note::{Level, Note};
 use crate::rules::{byte_at, word_at};
 use crate::state::{State, after, at_nmi, at_start, is_same, joined, note_of, state_at};
-use crate::step::{Needs, needs_of, step_at};
-use crate::work::{Callers, Todo, Work, filled, length_of};
+use crate::step::{Needs, Onward, needs_of, step_at};
+use crate::work::{Callers, Todo, Work, length_of};
 use std::alloc::{AllocError, Allocator};
 
 /// One more byte than the program may push, and one more instruction than the NMI may do.
@@ -992,30 +1200,9 @@ const TOO_MUCH_ROOM: u16 = 224;
 
 const TOO_MUCH_FUEL: u16 = 801;
 
-// A way leads to a place, with this known.
-fn go<A: Allocator + Copy>(states: &mut [Option<State>], todo: &mut Todo<A>, to: u32, new: State) {
-    if to < FIRST || FIRST + PLACES <= to {
-        return;
-    }
-    let i = (to - FIRST) as usize;
-    match states[i] {
-        None => {
-            states[i] = Some(begun(new));
-            todo.ahead.push(to);
-            todo.back.push(to);
-        }
-        Some(old) => {
-            if !same_level(old.level, new.level) || old.depth != new.depth {
-                return;
-            }
-            let both = joined(old, new);
-            if !is_same(old, both) {
-                states[i] = Some(both);
-                todo.ahead.push(to);
-                todo.back.push(to);
-            }
-        }
-    }
+// Puts what is found of a place.
+fn put(states: &mut [Option<State>], at: u32, state: State) {
+    states[(at - FIRST) as usize] = Some(state);
 }
 
 // Returns a state of which no needs are known.
@@ -1038,17 +1225,57 @@ fn raised(state: State, needs: Needs) -> State {
     new
 }
 
+// Returns what is found of a place where one more way leads, unless nothing changes.
+fn met(old: Option<State>, new: State) -> Option<State> {
+    let Some(known) = old else {
+        return Some(begun(new));
+    };
+    if !same_level(known.level, new.level) || known.depth != new.depth {
+        return None;
+    }
+    let both = joined(known, new);
+    if is_same(known, both) {
+        return None;
+    }
+    Some(both)
+}
+
+// A way leads to a place, with this known.
+fn go<A: Allocator + Copy>(states: &mut [Option<State>], todo: &mut Todo<A>, to: u32, new: State) {
+    if to < FIRST || FIRST + PLACES <= to {
+        return;
+    }
+    let Some(found) = met(state_at(states, to), new) else {
+        return;
+    };
+    put(states, to, found);
+    todo.ahead.push(to);
+    todo.back.push(to);
+}
+
+// An instruction goes on there, with this found of it.
+fn go_on<A: Allocator + Copy>(
+    states: &mut [Option<State>],
+    todo: &mut Todo<A>,
+    state: State,
+    onward: Option<Onward>,
+) {
+    let Some(one) = onward else {
+        return;
+    };
+    go(states, todo, one.to, after(state, one.change));
+}
+
 // Raises what a place needs; whether anything changed.
 fn raise(states: &mut [Option<State>], at: u32, needs: Needs) -> bool {
-    let i = (at - FIRST) as usize;
-    let Some(old) = states[i] else {
+    let Some(old) = state_at(states, at) else {
         return false;
     };
     let new = raised(old, needs);
     if new.room == old.room && new.fuel == old.fuel && new.ends == old.ends {
         return false;
     }
-    states[i] = Some(new);
+    put(states, at, new);
     true
 }
 
@@ -1068,6 +1295,9 @@ fn wake<A: Allocator + Copy>(
     todo: &mut Todo<A>,
     at: u32,
 ) {
+    if at < FIRST || FIRST + PLACES <= at {
+        return;
+    }
     for back in 1..4u32 {
         if length_of(kind_of(byte_at(rom, at - back))) == back {
             wake_at(states, &mut todo.back, at - back);
@@ -1091,20 +1321,22 @@ fn follow<A: Allocator + Copy>(
     todo: &mut Todo<A>,
     at: u32,
 ) {
+    if at < FIRST || FIRST + PLACES <= at {
+        return;
+    }
     let Some(state) = state_at(states, at) else {
         return;
     };
     let step = step_at(rom, states, at, state);
-    if let Some(one) = step.next {
-        go(states, todo, one.to, after(state, one.change));
-    }
-    if let Some(one) = step.to {
-        go(states, todo, one.to, after(state, one.change));
-    }
+    go_on(states, todo, state, step.next);
+    go_on(states, todo, state, step.to);
 }
 
 // Counts what the instruction at a place needs; whether that is more than was known.
 fn count(rom: &[u8], states: &mut [Option<State>], at: u32) -> bool {
+    if at < FIRST || FIRST + PLACES <= at {
+        return false;
+    }
     let Some(state) = state_at(states, at) else {
         return false;
     };
@@ -1121,20 +1353,42 @@ fn work_on<A: Allocator + Copy>(
     todo: &mut Todo<A>,
 ) -> bool {
     if let Some(at) = todo.ahead.pop() {
-        if FIRST <= at && at < FIRST + PLACES {
-            follow(rom, states, todo, at);
-        }
+        follow(rom, states, todo, at);
         return true;
     }
     let Some(at) = todo.back.pop() else {
         return false;
     };
-    if FIRST <= at && at < FIRST + PLACES {
-        if count(rom, states, at) {
-            wake(rom, states, callers, todo, at);
-        }
+    if count(rom, states, at) {
+        wake(rom, states, callers, todo, at);
     }
     true
+}
+
+// Returns that nothing is found of any place.
+fn nothing_found<A: Allocator>(alloc: A) -> Result<Vec<Option<State>, A>, AllocError> {
+    let mut states = Vec::new(alloc);
+    for _ in 0..PLACES {
+        states.push(None)?;
+    }
+    Ok(states)
+}
+
+/// Returns no note for each place.
+pub fn unnoted<A: Allocator>(alloc: A) -> Result<Vec<Option<Note>, A>, AllocError> {
+    let mut notes = Vec::new(alloc);
+    for _ in 0..PLACES {
+        notes.push(None)?;
+    }
+    Ok(notes)
+}
+
+// Returns the note of a place, if anything is found of it.
+fn noted_of(found: Option<State>) -> Option<Note> {
+    match found {
+        Some(state) => Some(note_of(state)),
+        None => None,
+    }
 }
 
 // Returns the notes of all places.
@@ -1144,15 +1398,32 @@ fn notes_of<A: Allocator>(
 ) -> Result<Vec<Option<Note>, A>, AllocError> {
     let mut notes = Vec::new(alloc);
     for i in 0..PLACES {
-        match states[i as usize] {
-            Some(state) => notes.push(Some(note_of(state)))?,
-            None => notes.push(None)?,
-        }
+        notes.push(noted_of(states[i as usize]))?;
     }
     Ok(notes)
 }
 
-/// Returns notes of a program that starts at `start`.
+// Finds all that comes from the start and from the NMI's vector, and returns the notes of it.
+fn find_all<A: Allocator + Copy>(
+    alloc: A,
+    rom: &[u8],
+    start: u32,
+    states: &mut [Option<State>],
+    callers: &Callers<A>,
+    todo: &mut Todo<A>,
+) -> Result<Vec<Option<Note>, A>, AllocError> {
+    let nmi = u32::from(word_at(rom, 0x7FFA));
+    go(states, todo, nmi, at_nmi());
+    go(states, todo, start, at_start());
+    for _ in 0..u64::MAX {
+        if !work_on(rom, states, callers, todo) {
+            break;
+        }
+    }
+    notes_of(alloc, states)
+}
+
+/// Returns notes of a program that starts at `start`: they say no more than any that are accepted.
 pub fn make<A: Allocator + Copy>(
     alloc: A,
     rom: &[u8],
@@ -1160,16 +1431,8 @@ pub fn make<A: Allocator + Copy>(
 ) -> Result<Vec<Option<Note>, A>, AllocError> {
     let callers = Callers::of(alloc, rom)?;
     let mut todo = Todo::new(alloc)?;
-    let mut states: Vec<Option<State>, A> = filled(alloc, None)?;
-    let nmi = u32::from(word_at(rom, 0x7FFA));
-    go(&mut states, &mut todo, nmi, at_nmi());
-    go(&mut states, &mut todo, start, at_start());
-    for _ in 0..u64::MAX {
-        if !work_on(rom, &mut states, &callers, &mut todo) {
-            break;
-        }
-    }
-    notes_of(alloc, &states)
+    let mut states = nothing_found(alloc)?;
+    find_all(alloc, rom, start, &mut states, &callers, &mut todo)
 }
 }
 mod note {
@@ -1615,26 +1878,43 @@ fn has_driver(rom: &[u8]) -> bool {
     stands(rom, 0x6800, DRIVER)
 }
 
-/// Returns where a program starts that is accepted with these notes, or why it isn't.
-pub fn check_rules(rom: &[u8], notes: &[Option<Note>]) -> Result<u32, Refusal> {
-    if !has_driver(rom) {
-        return Err(Refusal::Driver);
-    }
-    let start = match boot(rom) {
-        Ok(start) => start,
-        Err(at) => return Err(Refusal::Boot(at)),
-    };
+/// Returns why a program that starts there, behind the driver, isn't accepted with these notes.
+#[must_use]
+pub fn check_notes(rom: &[u8], notes: &[Option<Note>], start: u32) -> Option<Refusal> {
     match first_bad(rom, notes) {
-        Some(at) => return Err(Refusal::At(at)),
+        Some(at) => return Some(Refusal::At(at)),
         None => {}
     }
     if !starts_fine(notes, start) {
-        return Err(Refusal::Start);
+        return Some(Refusal::Start);
     }
     if !interrupts_fine(notes, u32::from(word_at(rom, 0x7FFA))) {
-        return Err(Refusal::Nmi);
+        return Some(Refusal::Nmi);
     }
-    Ok(start)
+    None
+}
+
+/// Returns where a program starts, behind the driver, or why no notes of it are accepted.
+pub fn check_start(rom: &[u8]) -> Result<u32, Refusal> {
+    if !has_driver(rom) {
+        return Err(Refusal::Driver);
+    }
+    match boot(rom) {
+        Ok(start) => Ok(start),
+        Err(at) => Err(Refusal::Boot(at)),
+    }
+}
+
+/// Returns where a program starts that is accepted with these notes, or why it isn't.
+pub fn check_rules(rom: &[u8], notes: &[Option<Note>]) -> Result<u32, Refusal> {
+    let start = match check_start(rom) {
+        Ok(start) => start,
+        Err(why) => return Err(why),
+    };
+    match check_notes(rom, notes, start) {
+        Some(why) => Err(why),
+        None => Ok(start),
+    }
 }
 }
 mod reach {
@@ -2485,20 +2765,50 @@ fn joined_slots(one: [Slot; SLOTS], other: [Slot; SLOTS]) -> [Slot; SLOTS] {
     joined
 }
 
+// Returns what A, X and Y hold whichever of two ways leads to a place.
+fn joined_held(one: Held, other: Held) -> Held {
+    Held {
+        a: joined_slot(one.a, other.a),
+        x: joined_slot(one.x, other.x),
+        y: joined_slot(one.y, other.y),
+    }
+}
+
+// Returns what two ways leave on the stack, if that is of the NMI.
+fn met_slots(old: State, new: State) -> [Slot; SLOTS] {
+    if !same_level(old.level, Level::Nmi) {
+        return old.slots;
+    }
+    joined_slots(old.slots, new.slots)
+}
+
+/// Returns whether both hold.
+pub fn both(one: bool, other: bool) -> bool {
+    one && other
+}
+
+/// Returns whether one of two holds.
+pub fn either(one: bool, other: bool) -> bool {
+    one || other
+}
+
 /// Returns what holds whichever of two ways leads to a place.
 pub fn joined(old: State, new: State) -> State {
-    let mut joined = old;
-    joined.held = Held {
-        a: joined_slot(old.held.a, new.held.a),
-        x: joined_slot(old.held.x, new.held.x),
-        y: joined_slot(old.held.y, new.held.y),
-    };
-    joined.awake = old.awake && new.awake;
-    joined.blank = old.blank || new.blank;
-    if same_level(old.level, Level::Nmi) {
-        joined.slots = joined_slots(old.slots, new.slots);
+    let held = joined_held(old.held, new.held);
+    let slots = met_slots(old, new);
+    let awake = both(old.awake, new.awake);
+    let blank = either(old.blank, new.blank);
+    State {
+        level: old.level,
+        depth: old.depth,
+        held,
+        slots,
+        room: old.room,
+        fuel: old.fuel,
+        awake,
+        blank,
+        ends: old.ends,
     }
-    joined
 }
 
 /// Returns whether two ways leave the same but for room, fuel and ends.
@@ -2543,7 +2853,7 @@ use crate::follow::{holding, of_held, set};
 use crate::kind::{Kind, Register, kind_of, size};
 use crate::note::{Change, Slot};
 use crate::rules::{blank_after, byte_at, is_driver, still_awake, target, word_at};
-use crate::state::{State, state_at, top};
+use crate::state::{State, either, state_at, top};
 
 /// A place where an instruction goes on, and what it changes.
 #[derive(Clone, Copy)]
@@ -2595,6 +2905,7 @@ fn straight(to: u32, change: Change, room: u16) -> Step {
     }
 }
 
+// Returns the step of a jump.
 fn jump(word: u16, reset: u16, state: State) -> Step {
     if word == reset {
         return nowhere(0, false);
@@ -2605,12 +2916,17 @@ fn jump(word: u16, reset: u16, state: State) -> Step {
     straight(u32::from(word), Change::Same, 0)
 }
 
-// Where a frame may be blank that the called subroutine leaves, if `ends`.
+// Returns whether the driver is awake after a call of a routine.
+fn woken(entry: u16, awake: bool) -> bool {
+    entry == 0x6800 || awake
+}
+
+// Returns the step of a call, where a frame may be blank that its subroutine leaves, if `ends`.
 fn call(word: u16, at: u32, state: State, ends: bool) -> Step {
     if is_driver(word) {
-        let awake = word == 0x6800 || state.awake;
-        let change = Change::Returns(awake, blank_after(word, state.blank));
-        return straight(at + 3, change, 4);
+        let awake = woken(word, state.awake);
+        let blank = blank_after(word, state.blank);
+        return straight(at + 3, Change::Returns(awake, blank), 4);
     }
     Step {
         next: Some(Onward {
@@ -2626,6 +2942,7 @@ fn call(word: u16, at: u32, state: State, ends: bool) -> Step {
     }
 }
 
+// Returns the step of a branch.
 fn branch(at: u32, low: u8) -> Step {
     Step {
         next: Some(Onward {
@@ -2720,6 +3037,25 @@ fn ends_before(change: Change, ends: bool) -> bool {
     }
 }
 
+// Returns what is needed before an instruction that goes on where this is found.
+fn needs_before(one: Onward, next: State) -> Needs {
+    Needs {
+        room: room_before(one.change, next.room),
+        fuel: next.fuel.saturating_add(1),
+        ends: ends_before(one.change, next.ends),
+    }
+}
+
+// Returns what is needed where both are.
+fn most(one: Needs, other: Needs) -> Needs {
+    let ends = either(one.ends, other.ends);
+    Needs {
+        room: one.room.max(other.room),
+        fuel: one.fuel.max(other.fuel),
+        ends,
+    }
+}
+
 // Returns what is needed before it goes on there, too.
 fn with_onward(states: &[Option<State>], onward: Option<Onward>, needs: Needs) -> Needs {
     let Some(one) = onward else {
@@ -2728,11 +3064,7 @@ fn with_onward(states: &[Option<State>], onward: Option<Onward>, needs: Needs) -
     let Some(next) = state_at(states, one.to) else {
         return needs;
     };
-    Needs {
-        room: needs.room.max(room_before(one.change, next.room)),
-        fuel: needs.fuel.max(next.fuel.saturating_add(1)),
-        ends: needs.ends || ends_before(one.change, next.ends),
-    }
+    most(needs, needs_before(one, next))
 }
 
 /// Returns what an instruction needs, by what is found where it goes on.

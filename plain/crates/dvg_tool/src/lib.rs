@@ -768,7 +768,7 @@ impl<A: Allocator> Answer<A> for Told<A> {
         match self.verdict {
             GameVerdict::Keeps(_) => Done::Good,
             GameVerdict::Unseen(_, _) => Done::Unseen,
-            GameVerdict::Refused(_) => Done::Bad,
+            GameVerdict::Refused(_) | GameVerdict::Unsettled(_) => Done::Bad,
         }
     }
 }

@@ -1,0 +1,17 @@
+use Rattle.std.proofs.Common.{◌≡◌, subst, sym, true}
+use Rattle.std.specs.Prelude.{Some}
+use Rattle.dvg_game_words.specs.Checker.{fine_at, noted}
+use Rattle.dvg_game_check.specs.Least.{NeededAt, UnderAt, state_meant}
+use Rattle.dvg_game_check.proofs.Barred.{there}
+use Rattle.dvg_game_check.proofs.maker.count.Goals as goal
+
+pub returns : goal.returns
+returns c f start notes has game under =
+    let m = state_meant c.in-Some.state in
+    let t = there m (noted notes c.args.at)
+    (subst (λ note. UnderAt note (noted notes c.args.at)) (sym c.in-Some.ensures) (under c.args.at)) in
+    let step =
+    c.step_at-step.ensures f t.n notes has under t.under.comes
+    (subst (λ note. fine_at notes f c.args.at note ≡ true) t.is (game.fine c.args.at)) in
+    c.raise.ensures notes under
+    (subst (λ note. NeededAt c.needs_of-needs.result note) (sym t.is) (c.needs_of-needs.ensures m t.n notes under step))
