@@ -327,8 +327,8 @@ function testDeluxe() {
     const game = gameOf(files), what = `${folder} for Deluxe`;
     const judged = judgeProgram(engine, new Program(game.program, game.labels), game.shapes);
     const { word, color, text } = everyVerdict(judged, game);
-    expect(`${what}: the verdict`, ['Not judged', '', ': nothing is proved of the board of Asteroids '
-      + 'Deluxe.'], [word, color, text]);
+    expect(`${what}: the verdict`, ['Not judged', '', ': nothing is proved of the board of '
+      + 'Asteroids Deluxe.'], [word, color, text]);
     const { program: bytes, shapes, missing } = gameOf(sockets);
     expect(`${what}: its sockets`, [true, true, ''], [missing, ...[[bytes, game.program],
       [shapes, game.shapes]].map((pair) => Buffer.compare(...pair) === 0)].reverse());
@@ -499,7 +499,7 @@ function beginningOf(line, { labels, program: bytes }) {
 // as the page writes it.
 function testChecker() {
   const games = [...GAMES, ['cave', caveOfPage()]].map(([what, game]) => ({ ...game, what }));
-  const faults = hasTools ? faultsOfBat() : [], counts = { 0: 0, 1: 0, 3: 0 };
+  const faults = hasTools ? faultsOfBat() : [], counts = { 0: 0, 1: 0, 3: 0 }, before = new Set();
   if (!hasTools) console.log('skipped: faults of a game: ca65 is not here');
   for (const game of [...games, ...faults, ...changedGames(games)]) {
     const { status, stdout, stderr } = saidByProgram(game), { what } = game;
@@ -513,8 +513,11 @@ function testChecker() {
     for (const line of judged.lines.filter((one) => OF_INSTRUCTION.test(one))) {
       expect(`${what}: ${line}`, true, line.startsWith(beginningOf(line, game)));
     }
+    const places = judged.lines.join().matchAll(/\b(at|into) [67]\w{3} \(/g);
+    for (const [, word] of places) before.add(word);
     counts[status]++;
   }
+  if (hasTools) expect('places beside have names', ['at', 'into'], [...before].sort());
   for (const status of [0, 1, 3]) expect(`some have ${status}`, true, counts[status] > 3);
   return console.log(`dvg.wasm beside dvg game: ${games.length} games, ${faults.length} faults, `
     + `${CASES} changed; ${counts[0]} accepted, ${counts[1]} refused, ${counts[3]} unseen`);
