@@ -41,7 +41,7 @@ fn tell_gap<A: Allocator>(
             out,
             "what it {what} isn't seen: it is of a list that isn't all in the program's ROM"
         ),
-        Gap::Missing => write!(out, "not all that it {what} is seen"),
+        Gap::Missing(word) => write!(out, "it {what} {word:04X}, which isn't seen to be good"),
     }
 }
 

@@ -1,13 +1,14 @@
 -- What is known at a place, one instruction after the other; and what is known of pairs of bytes.
-use Rattle.std.proofs.Common.{◌≡◌, ℕ, zero, suc, ◌+◌, ◌-◌, ◌*◌, ◌<◌, ◌≤◌, ◌&&◌, ◌||◌, Bool, true, false, refl, sym, ◌∙◌, ap, arith, bit_or, eq-eqb, get_or, ◌⊎◌, inl, inr, not}
+use Rattle.std.proofs.Common.{◌≡◌, ℕ, zero, suc, ◌+◌, ◌-◌, ◌*◌, ◌<◌, ◌≤◌, ◌&&◌, ◌||◌, Bool, true, false, refl, sym, ◌∙◌, ap, subst, arith, bit_or, eq-eqb, get_or, ◌⊎◌, inl, inr, not}
 use Rattle.std.specs.Prelude.{Option, None, Some, List, [], ◌∷◌, if◌then◌else◌, nat_eq, length}
+use Rattle.dvg_game_words.specs.Code.{dvg_offer, dvg_pair, dvg_put}
 use Rattle.dvg_game_words.specs.Checker.{Note, all_under}
 use Rattle.dvg_game_words.specs.Kinds.{Kind, Quiet, Reads, Transfer, Stores, Push, PushFlags, Pull, PullFlags, Branch, Jump, Call, Return, Finish, Wild, kind_of}
 use Rattle.dvg_game_words.specs.Machine.{word_at}
 use Rattle.dvg_game_words.specs.Brings.{Known, Any, Is, Under, By, Fact, Ways, fact, fact_by, next, nothing, for_each, flows, is_leap, far, brought_by, brings_at}
 use Rattle.dvg_game_check.specs.declared.known.Gap.{Gap}
 use Rattle.dvg_game_check.specs.declared.known.Gap.TheVariants.{Ways as GapWays, Pair, Unknown, Outside, Missing}
-use Rattle.dvg_game_check.specs.Brought.{GapTells, IsGap, PlaceTells, Tells, both_pass, brought_there, flows_there, flows_with, has, has_word}
+use Rattle.dvg_game_check.specs.Brought.{GapTells, IsGap, PairsTell, PlaceTells, Tells, both_pass, brought_there, flows_there, flows_with, has, has_word}
 use Rattle.dvg_game_check.specs.Brought.{known, known_is, leaps_there, next_with, value_of}
 use Rattle.dvg_game_check.proofs.Loops.{all_under_fails, under}
 use Rattle.dvg_game_check.proofs.Ors.{or_assoc}
@@ -162,17 +163,53 @@ brings_alone tables words f ways at h l =
 
 pub brings_so : (tables words : List ℕ) (f : ℕ → ℕ) (ways : Ways) (at : ℕ) (gap : Option Gap)
     → flows ways f at (kind_of (f at)) ≡ true → is_leap (kind_of (f at)) ≡ true
-    → Tells gap (brought_by (has tables) (has_word words) (known ways f 12 at) (word_at f (at + 1)))
+    → Tells tables words gap (known ways f far at) (word_at f (at + 1))
     → GapTells tables words f ways at gap
 unfolding flows_there leaps_there brought_there known
 brings_so tables words f ways at None h l tells =
     both_hold (flows ways f at (kind_of (f at))) (is_leap (kind_of (f at)))
     (brought_by (has tables) (has_word words) (fact ways f far at) (word_at f (at + 1))) h (inr tells)
 brings_so tables words f ways at (Some GapWays) h l tells = absurd tells
-brings_so tables words f ways at (Some Outside) h l tells = l
+brings_so tables words f ways at (Some Outside) h l tells = (l, tells)
 brings_so tables words f ways at (Some Pair) h l tells = (l, tells)
 brings_so tables words f ways at (Some Unknown) h l tells = (l, tells)
-brings_so tables words f ways at (Some Missing) h l tells = (l, tells)
+brings_so tables words f ways at (Some (Missing word)) h l tells = (l, tells)
+
+pub unknown_a : (b c : Bool) → b ≡ false → (b && c) ≡ false
+unknown_a b c h = rw h
+
+pub unknown_x : (b c : Bool) → c ≡ false → (b && c) ≡ false
+unknown_x true c h = h
+unknown_x false c h = refl
+
+-- what is said of a list is said of the routine that takes it
+pub offers_tell : (tables words : List ℕ) (gap : Option Gap) (fact : Fact) (to : ℕ) → to ≡ dvg_offer → PairsTell gap fact tables
+    → Tells tables words gap fact to
+offers_tell tables words None fact to e h =
+    subst (λ t. brought_by (has tables) (has_word words) fact t ≡ true) (sym e) h
+offers_tell tables words (Some GapWays) fact to e h = h
+offers_tell tables words (Some Pair) fact to e h = absurd h
+offers_tell tables words (Some Outside) fact to e h = h
+offers_tell tables words (Some Unknown) fact to e h =
+    (subst (λ t. brought_by (has tables) (has_word words) fact t ≡ false) (sym e) h.0, h.1)
+offers_tell tables words (Some (Missing word)) fact to e h =
+    (subst (λ t. brought_by (has tables) (has_word words) fact t ≡ false) (sym e) h.0, (h.1.0, inl (e, h.1.1)))
+
+pub puts_tell : (tables words : List ℕ) (gap : Option Gap) (fact : Fact) (to : ℕ) → to ≡ dvg_put → PairsTell gap fact words
+    → Tells tables words gap fact to
+puts_tell tables words None fact to e h =
+    subst (λ t. brought_by (has tables) (has_word words) fact t ≡ true) (sym e) h
+puts_tell tables words (Some GapWays) fact to e h = h
+puts_tell tables words (Some Pair) fact to e h = absurd h
+puts_tell tables words (Some Outside) fact to e h = h
+puts_tell tables words (Some Unknown) fact to e h =
+    (subst (λ t. brought_by (has tables) (has_word words) fact t ≡ false) (sym e) h.0, h.1)
+puts_tell tables words (Some (Missing word)) fact to e h =
+    (subst (λ t. brought_by (has tables) (has_word words) fact t ≡ false) (sym e) h.0, (h.1.0, inr (e, h.1.1)))
+
+pub pair_tells : (tables words : List ℕ) (fact : Fact) (to : ℕ) → to ≡ dvg_pair → Tells tables words (Some Pair) fact to
+pair_tells tables words fact to e =
+    (subst (λ t. brought_by (has tables) (has_word words) fact t ≡ false) (sym e) refl, e)
 
 pub place_brings : (tables words : List ℕ) (f : ℕ → ℕ) (ways : Ways) (at : ℕ) (note : Option Note)
     → PlaceTells tables words f ways at note None → brings_at (has tables) (has_word words) f ways at note ≡ true

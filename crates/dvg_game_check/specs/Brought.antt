@@ -1,5 +1,5 @@
 -- What the values of the code mean in the rules of what a program brings.
-use Rattle.std.specs.Prelude.{◌≡◌, ℕ, suc, ◌+◌, ◌*◌, ◌-◌, ◌<◌, ◌≤◌, ◌&&◌, ◌||◌, Bool, true, false, not, nat_eq, nat_le, if◌then◌else◌, bit_or}
+use Rattle.std.specs.Prelude.{◌≡◌, ◌⊎◌, ℕ, suc, ◌+◌, ◌*◌, ◌-◌, ◌<◌, ◌≤◌, ◌&&◌, ◌||◌, Bool, true, false, not, nat_eq, nat_le, if◌then◌else◌, bit_or}
 use Rattle.std.specs.Prelude.{Option, None, Some, List, [], ◌∷◌, slice_index}
 use Rattle.dvg_game_words.specs.Processor.{target}
 use Rattle.dvg_game_words.specs.Checker
@@ -10,7 +10,8 @@ use Rattle.dvg_game_words.specs.Kinds.{Return, Finish, Wild, kind_of, size}
 use Rattle.dvg_game_words.specs.Machine.{is_driver, word_at}
 use Rattle.dvg_game_words.specs.Brings
 use Rattle.dvg_game_words.specs.Brings.{Ways, bound, brings_by, fact, brought_by, far, fixed, flows, is_free, is_leap, kept_by, listed, passes_on, smaller}
-use Rattle.dvg_game_words.specs.Brings.{with_bits}
+use Rattle.dvg_game_words.specs.Brings.{with_bits, of_each}
+use Rattle.dvg_game_words.specs.Code.{dvg_offer, dvg_pair, dvg_put}
 use Rattle.dvg_game_check.specs.declared.known.Known.{Known}
 use Rattle.dvg_game_check.specs.declared.known.Known.TheVariants.{Any, Is, Under, Listed, Masked}
 use Rattle.dvg_game_check.specs.declared.known.Fact.{Fact}
@@ -99,14 +100,43 @@ known_is (Brings.Is n) = true
 known_is (Brings.Under n) = false
 known_is (Brings.By f) = true
 
--- what an answer says of a test: where a list isn't in the program's bytes, nothing
-abbrev pub Tells : Option Gap → Bool → Type 0
-Tells None b = b ≡ true
-Tells (Some GapWays) b = ⊥
-Tells (Some Pair) b = b ≡ false
-Tells (Some Unknown) b = b ≡ false
-Tells (Some Outside) b = Unit {0}
-Tells (Some Missing) b = b ≡ false
+-- a word of A and X, for some Y
+pub record MayBe (fact : Brings.Fact) (word : ℕ) : Type 0 where
+  pub y : ℕ
+  pub a : ℕ
+  pub x : ℕ
+  pub less : y < fact.most
+  pub is_a : value_of fact.a y ≡ Some a
+  pub is_x : value_of fact.x y ≡ Some x
+  pub word_is : word ≡ a + 256 * x
+
+-- what an answer says of a list that is to have each word of A and X: where they are in a list that isn't in the program's
+-- bytes, nothing
+abbrev pub PairsTell : Option Gap → Brings.Fact → (list : List ℕ) → Type 0
+PairsTell None fact list = of_each fact (has_word list) ≡ true
+PairsTell (Some GapWays) fact list = ⊥
+PairsTell (Some Pair) fact list = ⊥
+PairsTell (Some Outside) fact list = Unit {0}
+PairsTell (Some Unknown) fact list =
+    (of_each fact (has_word list) ≡ false) × ((known_is fact.a && known_is fact.x) ≡ false)
+PairsTell (Some (Missing word)) fact list =
+    (of_each fact (has_word list) ≡ false) × (MayBe fact word × (has list word ≡ false))
+
+-- a routine's list lacks a word
+abbrev pub IsLacking : (tables words : List ℕ) → (to word : ℕ) → Type 0
+IsLacking tables words to word =
+    ((to ≡ dvg_offer) × (has tables word ≡ false)) ⊎ ((to ≡ dvg_put) × (has words word ≡ false))
+
+-- and of what is brought to a routine of the driver
+abbrev pub Tells : (tables words : List ℕ) → Option Gap → Brings.Fact → (to : ℕ) → Type 0
+Tells tables words None fact to = brought_by (has tables) (has_word words) fact to ≡ true
+Tells tables words (Some GapWays) fact to = ⊥
+Tells tables words (Some Outside) fact to = Unit {0}
+Tells tables words (Some Pair) fact to = (brought_by (has tables) (has_word words) fact to ≡ false) × (to ≡ dvg_pair)
+Tells tables words (Some Unknown) fact to = (brought_by (has tables) (has_word words) fact to ≡ false)
+    × ((known_is fact.a && known_is fact.x) ≡ false)
+Tells tables words (Some (Missing word)) fact to = (brought_by (has tables) (has_word words) fact to ≡ false)
+    × (MayBe fact word × IsLacking tables words to word)
 
 -- parts of brings_at, not to be unfolded in goals: each place that it leads to is come to as is noted; it is a JSR or a JMP;
 -- what it brings is in the lists
@@ -120,11 +150,11 @@ unfoldable pub brought_there : (tables words : List ℕ) (rom : ℕ → ℕ) →
 brought_there tables words rom ways at =
     brought_by (has tables) (has_word words) (fact ways rom far at) (word_at rom (at + 1))
 
--- which of them is false: of an instruction whose list isn't in the program's bytes, none
+-- why not: it isn't come to as is noted where it leads, or it is a JSR or a JMP that brings something else
 abbrev pub IsGap : (tables words : List ℕ) (rom : ℕ → ℕ) → Ways → (at : ℕ) → Gap → Type 0
 IsGap tables words rom ways at GapWays = flows_there rom ways at ≡ false
-IsGap tables words rom ways at Outside = leaps_there rom at ≡ true
-IsGap tables words rom ways at gap = (leaps_there rom at ≡ true) × (brought_there tables words rom ways at ≡ false)
+IsGap tables words rom ways at gap =
+    (leaps_there rom at ≡ true) × Tells tables words (Some gap) (known ways rom far at) (word_at rom (at + 1))
 
 abbrev pub GapTells : (tables words : List ℕ) (rom : ℕ → ℕ) → Ways → (at : ℕ) → Option Gap → Type 0
 GapTells tables words rom ways at None =

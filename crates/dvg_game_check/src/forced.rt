@@ -120,6 +120,7 @@ fn read_forced(
         → Comes (note_meant now.now) n
         → fine_with (kind_meant (Kind.Reads sets place)) all low word 0 at n ≡ false }
 {
+    let _ = sets;
     if !reached(place, low, word, Test::NoStrobe) {
         return true;
     }

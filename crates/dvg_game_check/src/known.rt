@@ -3,7 +3,7 @@ ghost use Rattle.std.specs.Prelude.{◌≡◌, ℕ, ◌+◌, ◌*◌, ◌<◌, �
 ghost use Rattle.dvg_game_words.specs.Processor as processor;
 ghost use Rattle.dvg_game_words.specs.Brings as brings;
 ghost use Rattle.dvg_game_words.specs.Brings.{brought_by, of_each};
-ghost use Rattle.dvg_game_check.specs.Brought.{BringsOnly, GapTells, IsUnseen, PlaceTells, Tells, fact_meant};
+ghost use Rattle.dvg_game_check.specs.Brought.{BringsOnly, GapTells, IsUnseen, PairsTell, PlaceTells, Tells, fact_meant};
 ghost use Rattle.dvg_game_check.specs.Brought.{flows_with, has, has_word, known, known_is, known_meant, next_with};
 ghost use Rattle.dvg_game_check.specs.Brought.{value_of, ways_in};
 ghost use Rattle.dvg_game_check.specs.Meant.{kind_meant};
@@ -312,8 +312,8 @@ pub enum Gap {
     Unknown,
     /// A or X is in a list that isn't all in the program's bytes, or no Y is known for it.
     Outside,
-    /// A word that A and X may be isn't in the list.
-    Missing,
+    /// This word, which A and X may be, isn't in the list.
+    Missing(u16),
 }
 
 // Returns whether it is known what a byte is, for each Y.
@@ -330,7 +330,7 @@ fn is_known(known: Known) -> bool
 fn pairs_gap(rom: &[u8], list: &[u16], fact: Fact) -> Option<Gap>
     requires { length rom.now ≡ BYTES }
     ensures { (f : ℕ → ℕ) → HasBytes rom.now f
-        → Tells result (of_each (fact_meant f fact) (has_word list.now)) }
+        → PairsTell result (fact_meant f fact) list.now }
 {
     if !is_known(fact.a) {
         return Some(Gap::Unknown);
@@ -342,8 +342,9 @@ fn pairs_gap(rom: &[u8], list: &[u16], fact: Fact) -> Option<Gap>
         let (Some(a), Some(x)) = (value(rom, fact.a, y), value(rom, fact.x, y)) else {
             return Some(Gap::Outside);
         };
-        if !contains(list, u16::from(a) + 256 * u16::from(x)) {
-            return Some(Gap::Missing);
+        let word = u16::from(a) + 256 * u16::from(x);
+        if !contains(list, word) {
+            return Some(Gap::Missing(word));
         }
     }
     if fact.most == 0 {
@@ -356,7 +357,7 @@ fn pairs_gap(rom: &[u8], list: &[u16], fact: Fact) -> Option<Gap>
 fn brought_gap(rom: &[u8], tables: &[u16], words: &[u16], fact: Fact, to: u16) -> Option<Gap>
     requires { length rom.now ≡ BYTES }
     ensures { (f : ℕ → ℕ) → HasBytes rom.now f
-        → Tells result (brought_by (has tables.now) (has_word words.now) (fact_meant f fact) to) }
+        → Tells tables.now words.now result (fact_meant f fact) to }
 {
     if to == 0x68FE {
         pairs_gap(rom, tables, fact)

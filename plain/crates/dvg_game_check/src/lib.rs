@@ -298,6 +298,7 @@ fn read_forced(
     at: u32,
     now: &Note,
 ) -> bool {
+    let _ = sets;
     if !reached(place, low, word, Test::NoStrobe) {
         return true;
     }
@@ -1059,8 +1060,8 @@ pub enum Gap {
     Unknown,
     /// A or X is in a list that isn't all in the program's bytes, or no Y is known for it.
     Outside,
-    /// A word that A and X may be isn't in the list.
-    Missing,
+    /// This word, which A and X may be, isn't in the list.
+    Missing(u16),
 }
 
 // Returns whether it is known what a byte is, for each Y.
@@ -1083,8 +1084,9 @@ fn pairs_gap(rom: &[u8], list: &[u16], fact: Fact) -> Option<Gap> {
         let (Some(a), Some(x)) = (value(rom, fact.a, y), value(rom, fact.x, y)) else {
             return Some(Gap::Outside);
         };
-        if !contains(list, u16::from(a) + 256 * u16::from(x)) {
-            return Some(Gap::Missing);
+        let word = u16::from(a) + 256 * u16::from(x);
+        if !contains(list, word) {
+            return Some(Gap::Missing(word));
         }
     }
     if fact.most == 0 {
