@@ -89,7 +89,7 @@ FAULTS = [
      MOVES, MOVES.replace('jsr', 'jmp'), '(picture) one for a JSR'),
     ('JMP and JSR to one subroutine', MOVES,
      ' bit IN_FIRE\n bpl calls\n jmp move_bat\ncalls:\n' + MOVES,
-     '(calls): jsr move_bat: it goes on at game.s line 122 (move_bat), which is'),
+     '(move_bat), which is sub, not main: it is called at game.s line 52 (calls)'),
     ('JMP for JSR of the driver', '        jsr dvg_redraw\n', '        jmp dvg_redraw\n',
      'is this a JMP for a JSR'),
     ('a loop without its JMP', '        jmp picture\n', '', 'is an RTS or JMP missing before it'),
