@@ -7,7 +7,7 @@ use crate::asks::{call_of, tell_ask, way_behind, way_there};
 use crate::hints::Hints;
 use crate::instruction::Instruction;
 use crate::program::{Program, RESET_VECTOR};
-use dvg_game_check::{Broken, Level, Note, Rule};
+use dvg_game_check::{Ask, Broken, Level, Note, Rule};
 use dvg_io::Text;
 use std::alloc::Allocator;
 use std::fmt::{self, Write};
@@ -57,6 +57,9 @@ fn tell_rule<A: Allocator + Copy>(
         Rule::ReturnDepth => tell_return_depth(out, now),
         Rule::FinishLevel | Rule::FinishDepth => tell_finish(out, now),
         Rule::FinishHeld => tell_lost(out, now),
+        Rule::CallRoom if program.note(u32::from(i.operand())).is_none() => {
+            tell_ask(out, program, &way_there(program, i, now), Ask::Noted)
+        }
         Rule::Next(ask) => tell_ask(out, program, &way_behind(program, i, now), ask),
         Rule::Target(ask) => tell_ask(out, program, &way_there(program, i, now), ask),
         _ => tell_plainly(out, rule),

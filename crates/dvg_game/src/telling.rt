@@ -179,7 +179,8 @@ fn tell_driver<A: Allocator + Copy>(alloc: A) -> Result<Parts<A>, OutOfMemory>
     let mut out = Text::new(alloc);
     done(write!(
         out,
-        "from 6800 on, what stands there isn't the driver's code, as board/driver.s has it\n"
+        "from 6800 on, what stands there isn't the driver's code, as board/driver.s has it; the \
+         vector ROM's 2048 bytes come first\n"
     ))?;
     Ok(Parts {
         lines: Vec::new(alloc),

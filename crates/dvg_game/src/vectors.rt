@@ -50,7 +50,7 @@ pub(crate) fn tell_boot<A: Allocator>(
     );
     write!(
         out,
-        "a reset begins with LDX #$FF, TXS, in 32 instructions; before it come loads and stores \
+        "a reset begins with LDX #$FF, TXS, after 31 instructions at most; before it come loads and stores \
          alone: "
     )?;
     if is_nmi {
@@ -100,11 +100,10 @@ pub(crate) fn tell_vectors<A: Allocator>(out: &mut Text<A>, program: &Program<'_
             )?;
         }
         Some(note) if MOST_ROOM < note.room => {
-            let room = note.room;
             write!(
                 out,
-                "the vectors: the program may push {room} bytes, and {MOST_ROOM} are there: does \
-                 a subroutine call itself?\n"
+                "the vectors: the program may push more than {MOST_ROOM} bytes: does a subroutine \
+                 call itself?\n"
             )?;
         }
         Some(_) => {}

@@ -119,7 +119,7 @@ FAULTS = [
     ('a small stack', STACK, '        ldx #$03\n        txs\n', 'S is set at a reset alone'),
     ('a push before TXS', STACK, '        pha\n' + STACK, 'a reset begins with LDX #$FF, TXS'),
     ('a call before TXS', STACK, '        jsr serve\n' + STACK, 'before it come loads and stores'),
-    ('a call by a mirror of the ROM', *beyond('jsr $E943'), 'no room for the call'),
+    ('a call by a mirror of the ROM', *beyond('jsr $E943'), 'no instruction of the game'),
     ('an NMI that jumps to the reset', *in_nmi('jmp reset'), 'the NMI jumps to the reset'),
     ('an NMI that leaves a byte on the stack', *in_nmi('pha\n        inc beats'),
      'RTI with 1 byte more'),

@@ -998,7 +998,11 @@ Standard output: one of three verdicts.
   the rule, and what to do, the causes first        status 1
   keeps to the rules, but not all that it offers and puts is seen   status 3
 With `--notes` the notes of the program follow, a line for each instruction, and
-then each table that it offers, and each word that it puts.
+then each table that it offers, and each word that it puts. A note has the level;
+how many bytes it has pushed, and may still push; how many instructions the NMI
+may still do; what A, X, Y and the bytes that it pushed hold of the registers
+where the NMI came; and `awake`, where dvg_reset was called, `blank`, where a
+frame may be empty, and `ends`, where it may be so at the RTS.
 
 Faults: `game size N` for another number of bytes.
 

@@ -1444,7 +1444,7 @@ use crate::asks::{call_of, tell_ask, way_behind, way_there};
 use crate::hints::Hints;
 use crate::instruction::Instruction;
 use crate::program::{Program, RESET_VECTOR};
-use dvg_game_check::{Broken, Level, Note, Rule};
+use dvg_game_check::{Ask, Broken, Level, Note, Rule};
 use dvg_io::Text;
 use std::alloc::Allocator;
 use std::fmt::{self, Write};
@@ -1494,6 +1494,9 @@ fn tell_rule<A: Allocator + Copy>(
         Rule::ReturnDepth => tell_return_depth(out, now),
         Rule::FinishLevel | Rule::FinishDepth => tell_finish(out, now),
         Rule::FinishHeld => tell_lost(out, now),
+        Rule::CallRoom if program.note(u32::from(i.operand())).is_none() => {
+            tell_ask(out, program, &way_there(program, i, now), Ask::Noted)
+        }
         Rule::Next(ask) => tell_ask(out, program, &way_behind(program, i, now), ask),
         Rule::Target(ask) => tell_ask(out, program, &way_there(program, i, now), ask),
         _ => tell_plainly(out, rule),
@@ -1850,7 +1853,8 @@ fn tell_driver<A: Allocator + Copy>(alloc: A) -> Result<Parts<A>, OutOfMemory> {
     let mut out = Text::new(alloc);
     done(write!(
         out,
-        "from 6800 on, what stands there isn't the driver's code, as board/driver.s has it\n"
+        "from 6800 on, what stands there isn't the driver's code, as board/driver.s has it; the \
+         vector ROM's 2048 bytes come first\n"
     ))?;
     Ok(Parts {
         lines: Vec::new(alloc),
@@ -2108,7 +2112,7 @@ pub(crate) fn tell_boot<A: Allocator>(
     );
     write!(
         out,
-        "a reset begins with LDX #$FF, TXS, in 32 instructions; before it come loads and stores \
+        "a reset begins with LDX #$FF, TXS, after 31 instructions at most; before it come loads and stores \
          alone: "
     )?;
     if is_nmi {
@@ -2158,11 +2162,10 @@ pub(crate) fn tell_vectors<A: Allocator>(out: &mut Text<A>, program: &Program<'_
             )?;
         }
         Some(note) if MOST_ROOM < note.room => {
-            let room = note.room;
             write!(
                 out,
-                "the vectors: the program may push {room} bytes, and {MOST_ROOM} are there: does \
-                 a subroutine call itself?\n"
+                "the vectors: the program may push more than {MOST_ROOM} bytes: does a subroutine \
+                 call itself?\n"
             )?;
         }
         Some(_) => {}
