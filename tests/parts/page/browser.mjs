@@ -1806,12 +1806,40 @@ async function testTwice() {
     expect(`${width}: all of it is in view`, '', await outOfView(['#side-whole .glass',
       '#side-cut .glass', '#side-cut .wire', '#cut-wire', '#what-happened', '#in-each-run',
       '#stroke', '#fly', '#why', '#both-sound', '#premises summary', '#asked-text']));
-    expect(`${width}: nothing is wider than the window`, true,
-      await tab.value('document.documentElement.scrollWidth <= innerWidth'));
   }
   await testStrokes();
   await testFlight();
+  await testTwiceWidths();
   await testBothPads();
+}
+
+// How wide the page is, and what over a tube is cut or stands out, with so many pictures counted.
+const wideParts = (pictures) => tab.value(`(() => {
+  const count = ': each of ${pictures} pictures.', boxOf = (one) => one.getBoundingClientRect();
+  for (const one of document.querySelectorAll('#twice .verdict')) {
+    one.lastElementChild.textContent = count;
+  }
+  const out = [...document.querySelectorAll('.side-head')].flatMap((head) => (
+    [...head.children].filter((one) => one.checkVisibility()).filter((one, k, all) => (
+      boxOf(one).left < (k > 0 ? boxOf(all[k - 1]).right : boxOf(head).left) - 0.5
+        || boxOf(one).right > boxOf(head).right + 0.5 || one.scrollWidth > one.clientWidth + 1))));
+  return [document.documentElement.scrollWidth, ...out.map((one) => one.textContent)].join('; ');
+})()`);
+
+async function testTwiceWidths() {
+  await inTabOf(FAST_TIME, async () => {
+    for (const [width, height] of [[360, 740], [400, 800], [640, 900], [700, 900], [768, 1024],
+      [800, 900], [844, 390], [1280, 600], [1280, 800]]) {
+      await tab.size(width, height, width < 900);
+      await tab.open(front);
+      for (const [what, come] of [['before the cut', () => tab.value('passFrames(30)')],
+        ['after it', () => passUntil(STOPPED, 7)]]) {
+        await come();
+        expect(`${width} by ${height}, ${what}: nothing is too wide`, String(width),
+          await wideParts('12,345'));
+      }
+    }
+  });
 }
 
 // Without a click it tears within seven seconds of the boards' own time; sound is off until it is
