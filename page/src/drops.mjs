@@ -14,6 +14,8 @@ const TOLD = {
     + 'the same run beside it, torn.log.',
   driven: () => 'This is what a driver did, without what the generator fetched: nothing of it can '
     + 'be judged here. make torn writes a log that can.',
+  source: () => 'This is the source of a program. Run make beside it, and drop what that writes: '
+    + 'build/game.program and build/rom, both at once.',
   pictures: ({ length }) => `This is ${length / 2048} times 2,048 bytes: as make judge keeps the `
     + 'vector RAM of each picture, or as sockets in one file. The page opens neither: make film '
     + 'draws such pictures, and sockets are dropped as files of their own.',

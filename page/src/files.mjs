@@ -36,9 +36,9 @@ function isDump(bytes, name) {
     && (/\.(dump|bin)$/.test(name) || bytes[1] >> 4 === JUMP);
 }
 
-/* A dump or a ROM by its length, and a text by its first line that says anything. A file of 4,096
- * bytes is a dump, as the larger ROM has its own button; but nothing is guessed as one that could
- * be a program: that is `unsure`. */
+/* A dump or a ROM by its length, a source by its name, and another text by its first line that says
+ * anything. A file of 4,096 bytes is a dump, as the larger ROM has its own button; but nothing is
+ * guessed as one that could be a program: that is `unsure`. */
 export function kindOf(bytes, name = '') {
   if (!isText(bytes)) {
     if (DUMP_BYTES.includes(bytes.length)) return isDump(bytes, name) ? 'dump' : 'unsure';
@@ -47,6 +47,7 @@ export function kindOf(bytes, name = '') {
     if (isWords && name.endsWith('.words')) return 'words';
     return bytes.length % PICTURE_BYTES === 0 ? 'pictures' : 'unknown';
   }
+  if (/\.s$/i.test(name)) return 'source';
   const lines = new TextDecoder().decode(bytes).split('\n').map((line) => line.trim());
   const unpassed = lines.filter((line) => line !== '' && !/^(#|map |rom )/.test(line));
   const first = unpassed[0] ?? '';

@@ -682,7 +682,7 @@ async function openTwice(read) {
   const { fault, name, game, said } = await play.readGame(read, true);
   const why = fault === '' ? whyNotShown(read[0]) : fault ?? '';
   if (fault === null) twice.begin(name, game, { said, isStill: wantsLessMotion() });
-  else if (why !== '') twice.say(`${read[0].name}: ${why}`);
+  else if (why !== '') twice.say(fault === '' ? `${read[0].name}. ${why}` : why, true);
   return fault === null || why !== '';
 }
 

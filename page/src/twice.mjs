@@ -89,15 +89,18 @@ export class Twice {
     byId('both-ignored').checked = true;
     const isNone = found === null ? ' With none of these beams does it tear within 4 seconds: its '
       + 'pictures are done before the next one comes.' : '';
-    setText(byId('both-said'), `${said}${isNone}`.trim());
+    this.hasBeam = found !== null;
+    this.say(`${said}${isNone}`.trim());
     this.judge();
     this.beginAnew(isStill);
   }
 
-  /* Says something of what was dropped: the game that is there goes on. */
-  say(text) {
-    setText(byId('both-said'), text);
-    byId('asked').open = true;
+  /* Says something below the buttons, in view: the game that is there goes on. */
+  say(text, isBad = false) {
+    const said = byId('both-said');
+    said.className = isBad ? 'bad' : '';
+    setText(said, text);
+    if (text !== '') said.scrollIntoView({ block: 'nearest' });
   }
 
   /* Begins the game anew, as what is asked of both boards is now. */
@@ -425,9 +428,11 @@ export class Twice {
     }
     if (counts.torn > 0) return `${this.handsText}What is red came from another picture.`;
     if (arcade.seconds < NO_TEAR_AFTER) return 'Cut. It says “done” always, from now on.';
-    return counts.left > counts.pictures ? 'No tear: each strobe starts the beam anew, so hardly a '
-      + 'picture is finished.' : 'No tear yet: each picture is done before the game writes on. Try '
-      + 'a slower beam, below.';
+    if (counts.left > counts.pictures) {
+      return 'No tear: each strobe starts the beam anew, so hardly a picture is finished.';
+    }
+    return 'No tear yet: each picture is done before the game writes on.'
+      + `${this.hasBeam ? ' A slower beam may tear: open “Change this”, below.' : ''}`;
   }
 
   /* How it is flown, until somebody does. */
@@ -456,18 +461,21 @@ export class Twice {
 
   judge() {
     const judged = judgeProgram(this.engine, this.program, this.game.shapes);
-    const { color, text } = everyVerdict(judged, this.game);
+    const { color, text, lines } = everyVerdict(judged, this.game);
+    const whys = color === 'good' ? [] : lines;
     const strong = Object.assign(document.createElement('strong'),
       { className: color, textContent: 'In every run' });
     const link = Object.assign(document.createElement('a'),
-      { href: '#premises', textContent: 'What that takes' });
+      { href: '#premises', textContent: whys.length > 0 ? 'All of it' : 'What that takes' });
     link.addEventListener('click', (event) => {
       event.preventDefault();
       byId('premises').open = true;
       byId('premises').scrollIntoView({ block: 'nearest' });
       byId('premises').firstElementChild.focus();
     });
-    byId('in-each-run').replaceChildren(strong, `${text.replace(/ Why:$/, '')} `, link);
+    byId('in-each-run').replaceChildren(strong, `${[text, ...whys.slice(0, 1)].join(' ')} `, link);
+    byId('both-lines').hidden = whys.length === 0;
+    setText(byId('both-lines'), whys.join('\n'));
   }
 
   /* --- Hands --- */

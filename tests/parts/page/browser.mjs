@@ -1939,6 +1939,20 @@ async function testFlight() {
   await expectSoon('a game that is dropped runs on both', /^Both: game\.program/,
     () => tab.text('asked-text'));
   await expectSoon('and tears', true, () => tab.value(STOPPED));
+  await tab.size(1280, 900);
+  for (const [one, text] of [[`${top}examples/cave/game.s`,
+    /^game\.s\. This is the source .* drop what that writes: build\/game\.program and build\/rom, /],
+  [filesOfCave()[1], /^rom is a vector ROM, /]]) {
+    await tab.drop('side-cut', one);
+    await expectSoon('a wrong file is told', text, () => tab.text('both-said'));
+    expect('below the buttons, in view', '', await outOfView(['#both-said', '#fly']));
+  }
+  await tab.drop('side-cut', filesOfGame(1, [[0x6C8F, 0x8D], [0x6C90, 0x04], [0x6C91, 0x40]]));
+  await expectSoon('of a refused game its instruction is told',
+    /^In every run: 1 instruction may .* Why: 6C8F: sta \$4004: it writes 4004, .* All of it$/,
+    () => tab.text('in-each-run'));
+  await tab.click('#in-each-run a');
+  expect('and all of it', /^6C8F: sta \$4004: it writes 4004, /, await wordsOf('#both-lines'));
 }
 
 // A game alone: its pictures are whole, it is accepted, and keeps its pace.

@@ -715,6 +715,7 @@ function testFiles() {
   }
   expect('words', 'words', kindOf(readFileSync(`${top}examples/stars.words`), 'stars.words'));
   is('list', readFileSync(`${top}examples/stars.list`));
+  expect('a source', 'source', kindOf(readFileSync(`${top}examples/cave/game.s`), 'game.s'));
   is('rom', new Uint8Array(2048).fill(0xD0));
   is('unknown', new Uint8Array(100));
   for (const name of ['attract', 'digits', 'rocks', 'rom_shapes', 'score', 'ship']) is('draft',
