@@ -90,9 +90,9 @@ export class Twice {
     const isNone = found === null ? ' With none of these beams does it tear within 4 seconds: its '
       + 'pictures are done before the next one comes.' : '';
     this.hasBeam = found !== null;
-    this.say(`${said}${isNone}`.trim());
     this.judge();
     this.beginAnew(isStill);
+    this.say(`${said}${isNone}`.trim());
   }
 
   /* Says something below the buttons, in view: the game that is there goes on. */
@@ -473,7 +473,8 @@ export class Twice {
       byId('premises').scrollIntoView({ block: 'nearest' });
       byId('premises').firstElementChild.focus();
     });
-    byId('in-each-run').replaceChildren(strong, `${[text, ...whys.slice(0, 1)].join(' ')} `, link);
+    const first = whys.length > 0 ? ` ${whys[0]}.` : '';
+    byId('in-each-run').replaceChildren(strong, `${text}${first} `, link);
     byId('both-lines').hidden = whys.length === 0;
     setText(byId('both-lines'), whys.join('\n'));
   }

@@ -824,7 +824,7 @@ async function testChosen() {
 
 // What is dropped, by its name, what the panel says of it, and whether that is bad.
 const DROPS = [
-  ['game.s', '; a game\n        lda #0\n', /^This is neither a game, a dump, /, true],
+  ['game.s', '; a game\n        lda #0\n', /^This is the source of a program\. Run make /, true],
   ['a.png', Buffer.from('89504E470D0A1A0A0000000D49484452', 'hex'), /^This is neither/, true],
   ['shapes.sketch', readFileSync(`${top}examples/board/shapes.sketch`), /^The ROM was loaded, /,
     false],
@@ -1949,7 +1949,7 @@ async function testFlight() {
   }
   await tab.drop('side-cut', filesOfGame(1, [[0x6C8F, 0x8D], [0x6C90, 0x04], [0x6C91, 0x40]]));
   await expectSoon('of a refused game its instruction is told',
-    /^In every run: 1 instruction may .* Why: 6C8F: sta \$4004: it writes 4004, .* All of it$/,
+    /^In every run: 1 instruction may .* Why: 6C8F: sta \$4004: it writes 4004, .*\. All of it$/,
     () => tab.text('in-each-run'));
   await tab.click('#in-each-run a');
   expect('and all of it', /^6C8F: sta \$4004: it writes 4004, /, await wordsOf('#both-lines'));
