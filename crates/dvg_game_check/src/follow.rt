@@ -213,7 +213,8 @@ pub fn held_after(change: Change, now: &Note) -> Held
 }
 
 pub fn slots_serve(change: Change, now: &Note, new: &Note) -> bool
-    ensures { result ≡ rules.serve (note_meant new.now).slots (changed change (note_meant now.now)).slots }
+    ensures { result ≡ rules.serve (note_meant new.now).slots (changed change
+        (note_meant now.now)).slots }
 {
     let (asked, known) = (new.slots.as_slice(), now.slots.as_slice());
     match change {

@@ -5,7 +5,8 @@ ghost use Rattle.dvg_game_words.specs.Checker.{Notes, enters, fine_at, noted};
 ghost use Rattle.dvg_game_words.specs.Kinds as kinds;
 ghost use Rattle.dvg_game_check.specs.Least.{AreUnder, Comes, IsGame, IsUnder};
 ghost use Rattle.dvg_game_check.specs.Meant.{kind_meant};
-ghost use Rattle.dvg_game_check.specs.Rules.{HasBytes, calls_fine, fine_with, jumps_fine, level_meant, note_meant, notes_in};
+ghost use Rattle.dvg_game_check.specs.Rules.{HasBytes, calls_fine, fine_with, jumps_fine};
+ghost use Rattle.dvg_game_check.specs.Rules.{level_meant, note_meant, notes_in};
 
 use crate::follow::{FIRST, PLACES, all_serve, implies, same_level};
 use crate::kind::{Kind, Operand, Sets, kind_of, size};
@@ -42,7 +43,8 @@ fn exceeds(now: &Note) -> bool
 
 // Returns whether the driver may be called there, for all but the room.
 fn may_enter(to: u16, now: &Note) -> bool
-    ensures { result ≡ false → (n : rules.Note) → Comes (note_meant now.now) n → enters to n ≡ false }
+    ensures { result ≡ false → (n : rules.Note) → Comes (note_meant now.now) n
+        → enters to n ≡ false }
 {
     is_entry(to)
         && (!same_level(now.level, Level::Nmi)
@@ -172,7 +174,8 @@ fn forced_with(
     requires notes { length notes.now ≡ PLACES }
     requires place { at < 65536 }
     ensures { result ≡ true → (all : Notes) (n : rules.Note) → AreUnder (notes_in notes.now) all
-        → Comes (note_meant now.now) n → fine_with (kind_meant kind) all low word reset at n ≡ false }
+        → Comes (note_meant now.now) n → fine_with (kind_meant kind) all low word reset at n
+        ≡ false }
 {
     let (level, depth) = (now.level, u32::from(now.depth));
     match kind {

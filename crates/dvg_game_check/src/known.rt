@@ -3,8 +3,10 @@ ghost use Rattle.std.specs.Prelude.{◌≡◌, ℕ, ◌+◌, ◌*◌, ◌<◌, �
 ghost use Rattle.dvg_game_words.specs.Processor as processor;
 ghost use Rattle.dvg_game_words.specs.Brings as brings;
 ghost use Rattle.dvg_game_words.specs.Brings.{brought_by, of_each};
-ghost use Rattle.dvg_game_check.specs.Brought.{BringsOnly, GapTells, IsUnseen, PairsTell, PlaceTells, Tells, fact_meant};
-ghost use Rattle.dvg_game_check.specs.Brought.{flows_with, has, has_word, known, known_is, known_meant, next_with};
+ghost use Rattle.dvg_game_check.specs.Brought.{BringsOnly, GapTells, IsUnseen, PairsTell};
+ghost use Rattle.dvg_game_check.specs.Brought.{PlaceTells, Tells, fact_meant};
+ghost use Rattle.dvg_game_check.specs.Brought.{flows_with, has, has_word, known, known_is};
+ghost use Rattle.dvg_game_check.specs.Brought.{known_meant, next_with};
 ghost use Rattle.dvg_game_check.specs.Brought.{value_of, ways_in};
 ghost use Rattle.dvg_game_check.specs.Meant.{kind_meant};
 ghost use Rattle.dvg_game_check.specs.Rules.{HasBytes, notes_in};
@@ -420,7 +422,8 @@ fn place_gap(
     requires first { FIRST ≤ at }
     requires last { at < FIRST + PLACES }
     ensures { (f : ℕ → ℕ) → HasBytes rom.now f
-        → PlaceTells tables.now words.now f (ways_in ways.now) at (noted (notes_in notes.now) at) result }
+        → PlaceTells tables.now words.now f (ways_in ways.now) at (noted
+        (notes_in notes.now) at) result }
 {
     match &notes[(at - FIRST) as usize] {
         None => None,

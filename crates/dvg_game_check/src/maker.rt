@@ -2,7 +2,9 @@
 ghost use Rattle.std.specs.Prelude.{◌≡◌, ◌+◌, ◌<◌, ◌≤◌, ℕ, IfOk, IfSome, Option, Some, length};
 ghost use Rattle.dvg_game_words.specs.Checker as rules;
 ghost use Rattle.dvg_game_words.specs.Checker.{Notes, noted};
-ghost use Rattle.dvg_game_check.specs.Least.{AreUnder, Comes, ComesAt, IsGame, IsLeast, IsNeeded, IsOnward, IsUnder, NeededAt, UnderAt, found_meant, state_meant, states_in};
+ghost use Rattle.dvg_game_check.specs.Least.{AreUnder, Comes, ComesAt, IsGame, IsLeast, IsNeeded};
+ghost use Rattle.dvg_game_check.specs.Least.{IsOnward, IsUnder, NeededAt, UnderAt, found_meant};
+ghost use Rattle.dvg_game_check.specs.Least.{state_meant, states_in};
 ghost use Rattle.dvg_game_check.specs.Rules.{HasBytes, notes_in, option_meant};
 
 use crate::follow::{FIRST, PLACES, same_level};
@@ -25,7 +27,8 @@ fn put(states: &mut [Option<State>], at: u32, state: State)
     requires first { FIRST ≤ at }
     requires last { at < FIRST + PLACES }
     ensures { (notes : Notes) → AreUnder (states_in states.old) notes
-        → UnderAt (Some (state_meant state)) (noted notes at) → AreUnder (states_in states.new) notes }
+        → UnderAt (Some (state_meant state)) (noted notes at)
+        → AreUnder (states_in states.new) notes }
 {
     states[(at - FIRST) as usize] = Some(state);
 }
@@ -99,7 +102,8 @@ fn go_on<A: Allocator + Copy>(
 )
     requires { length states.old ≡ PLACES }
     ensures { (n : rules.Note) (notes : Notes) → AreUnder (states_in states.old) notes
-        → IfSome onward (λ one. IsOnward one (state_meant state) n notes) → AreUnder (states_in states.new) notes }
+        → IfSome onward (λ one. IsOnward one (state_meant state) n notes)
+        → AreUnder (states_in states.new) notes }
 {
     let Some(one) = onward else {
         return;
@@ -112,7 +116,8 @@ fn raise(states: &mut [Option<State>], at: u32, needs: Needs) -> bool
     requires states { length states.old ≡ PLACES }
     requires first { FIRST ≤ at }
     requires last { at < FIRST + PLACES }
-    ensures { (notes : Notes) → AreUnder (states_in states.old) notes → NeededAt needs (noted notes at)
+    ensures { (notes : Notes) → AreUnder (states_in states.old) notes
+        → NeededAt needs (noted notes at)
         → AreUnder (states_in states.new) notes }
 {
     let Some(old) = state_at(states, at) else {
@@ -315,7 +320,8 @@ pub fn make<A: Allocator + Copy>(
     start: u32,
 ) -> Result<Vec<Option<Note>, A>, AllocError>
     requires { length rom.now ≡ BYTES }
-    ensures { IfOk result (λ made. (length made.items ≡ PLACES) × IsLeast rom.now made.items start) }
+    ensures { IfOk result (λ made. (length made.items ≡ PLACES)
+        × IsLeast rom.now made.items start) }
 {
     let callers = Callers::of(alloc, rom)?;
     let mut todo = Todo::new(alloc)?;

@@ -1,9 +1,11 @@
 //! The check of the tables that a program offers, and of the words that it puts.
-ghost use Rattle.std.specs.Prelude.{◌≡◌, ℕ, ◌+◌, ◌*◌, ◌%◌, ◌/◌, ◌<◌, ◌≤◌, IfSome, MatchOption, All, length, true};
+ghost use Rattle.std.specs.Prelude.{◌≡◌, ℕ, ◌+◌, ◌*◌, ◌%◌, ◌/◌, ◌<◌, ◌≤◌, IfSome, MatchOption, All};
+ghost use Rattle.std.specs.Prelude.{length, true};
 ghost use Rattle.dvg_frame.specs.Layout as layout;
 ghost use Rattle.dvg_game_words.specs.Tables as words;
 ghost use Rattle.dvg_game_check.specs.Brought.{has};
-ghost use Rattle.dvg_game_check.specs.Offered.{AreThere, IsAccepted, IsFineTable, IsFineWord, IsLaid, TablesFine, WordsFine};
+ghost use Rattle.dvg_game_check.specs.Offered.{AreThere, IsAccepted, IsFineTable, IsFineWord};
+ghost use Rattle.dvg_game_check.specs.Offered.{IsLaid, TablesFine, WordsFine};
 ghost use Rattle.dvg_game_check.specs.Rules.{HasBytes};
 ghost use Rattle.dvg_game_words.specs.Tables.{NamesRom};
 ghost use Rattle.dvg_frame.specs.Layout.{size};
@@ -243,7 +245,8 @@ fn table_fine<A: Allocator>(rom: &[u8], vectors: &Rom<A>, t: u32) -> bool
 /// Returns the first of these addresses at which no table of an accepted draft is seen.
 pub fn bad_table<A: Allocator>(rom: &[u8], vectors: &Rom<A>, tables: &[u16]) -> Option<u16>
     requires { length rom.now ≡ BYTES }
-    ensures { MatchOption result (TablesFine vectors.now rom.now tables.now) (λ t. has tables.now t ≡ true) }
+    ensures { MatchOption result (TablesFine vectors.now rom.now tables.now)
+        (λ t. has tables.now t ≡ true) }
 {
     for i in 0..tables.len() {
         if !table_fine(rom, vectors, u32::from(tables[i])) {

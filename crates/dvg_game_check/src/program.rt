@@ -1,5 +1,6 @@
 //! The check of a program, with notes of it.
-ghost use Rattle.std.specs.Prelude.{◌≡◌, ℕ, ◌+◌, ◌<◌, ◌≤◌, List, MatchOption, MatchResult, Option, length, false};
+ghost use Rattle.std.specs.Prelude.{◌≡◌, ℕ, ◌+◌, ◌<◌, ◌≤◌, List, MatchOption, MatchResult, Option};
+ghost use Rattle.std.specs.Prelude.{length, false};
 ghost use Rattle.dvg_game_words.specs.Code.{code};
 ghost use Rattle.dvg_game_words.specs.Checker.{fine_at, interrupts, noted, stand_at, starts};
 ghost use Rattle.dvg_game_check.specs.Program.{AreFine, BootsNowhere, BootsTo, IsAccepted};

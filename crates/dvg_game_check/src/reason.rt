@@ -1,9 +1,12 @@
 //! Which rule an instruction breaks.
-ghost use Rattle.std.specs.Prelude.{◌≡◌, ℕ, ◌+◌, ◌<◌, ◌≤◌, IfOk, MatchOption, None, Some, false, length, true};
+ghost use Rattle.std.specs.Prelude.{◌≡◌, ℕ, ◌+◌, ◌<◌, ◌≤◌, IfOk, MatchOption, None, Some, false};
+ghost use Rattle.std.specs.Prelude.{length, true};
 ghost use Rattle.dvg_game_words.specs.Checker.{enters, leads, noted, suits};
 ghost use Rattle.dvg_game_check.specs.Meant.{kind_meant};
-ghost use Rattle.dvg_game_check.specs.Rules.{HasBytes, calls_fine, changed, fine_with, jumps_fine, note_meant, notes_in};
-ghost use Rattle.dvg_game_check.specs.Why.{AreBroken, BreaksBy, asked, asks, call_asks, entry_asks, finish_asks, jump_asks, return_asks, returns};
+ghost use Rattle.dvg_game_check.specs.Rules.{HasBytes, calls_fine, changed, fine_with, jumps_fine};
+ghost use Rattle.dvg_game_check.specs.Rules.{note_meant, notes_in};
+ghost use Rattle.dvg_game_check.specs.Why.{AreBroken, BreaksBy, asked, asks, call_asks, entry_asks};
+ghost use Rattle.dvg_game_check.specs.Why.{finish_asks, jump_asks, return_asks, returns};
 
 use crate::follow::{
     FIRST, PLACES, all_serve, awake_after, blank_after as blank_left, depth_after, ends_after,
@@ -92,8 +95,10 @@ pub enum Rule {
 
 // Returns what `new` asks for that an instruction with the note `now` doesn't leave.
 fn unsuited(change: Change, now: &Note, new: &Note) -> Option<Ask>
-    ensures { MatchOption result (suits (changed change (note_meant now.now)) (Some (note_meant new.now)) ≡ true)
-        (λ ask. asked ask (changed change (note_meant now.now)) (Some (note_meant new.now)) ≡ false) }
+    ensures { MatchOption result (suits (changed change (note_meant now.now)) (Some
+        (note_meant new.now)) ≡ true)
+        (λ ask. asked ask (changed change (note_meant now.now)) (Some (note_meant new.now))
+        ≡ false) }
 {
     let level = level_after(change, now);
     if !same_level(new.level, level) {
@@ -132,7 +137,8 @@ fn unled(notes: &[Option<Note>], to: u32, change: Change, now: &Note) -> Option<
     requires { length notes.now ≡ PLACES }
     ensures { MatchOption result
         (leads (notes_in notes.now) to (changed change (note_meant now.now)) ≡ true)
-        (λ ask. asked ask (changed change (note_meant now.now)) (noted (notes_in notes.now) to) ≡ false) }
+        (λ ask. asked ask (changed change (note_meant now.now)) (noted (notes_in notes.now) to)
+        ≡ false) }
 {
     if to < FIRST || FIRST + PLACES <= to {
         return Some(Ask::Noted);
@@ -145,7 +151,8 @@ fn unled(notes: &[Option<Note>], to: u32, change: Change, now: &Note) -> Option<
 
 // Returns why an instruction with the note `now` may not call the driver there.
 fn entry_why(to: u16, now: &Note) -> Option<Rule>
-    ensures { MatchOption result (enters to (note_meant now.now) ≡ true) (λ rule. entry_asks rule to (note_meant now.now) ≡ false) }
+    ensures { MatchOption result (enters to (note_meant now.now)
+        ≡ true) (λ rule. entry_asks rule to (note_meant now.now) ≡ false) }
 {
     if !is_entry(to) {
         return Some(Rule::Entry);
@@ -167,7 +174,8 @@ fn entry_why(to: u16, now: &Note) -> Option<Rule>
 
 // Returns why a subroutine may not return, where a frame may be blank.
 fn return_why(blank: bool, now: &Note) -> Option<Rule>
-    ensures { MatchOption result (returns blank (note_meant now.now) ≡ true) (λ rule. return_asks rule blank (note_meant now.now) ≡ false) }
+    ensures { MatchOption result (returns blank (note_meant now.now)
+        ≡ true) (λ rule. return_asks rule blank (note_meant now.now) ≡ false) }
 {
     if !same_level(now.level, Level::Sub) {
         return Some(Rule::ReturnLevel);
@@ -184,7 +192,9 @@ fn return_why(blank: bool, now: &Note) -> Option<Rule>
 fn jump_why(notes: &[Option<Note>], word: u16, reset: u16, now: &Note) -> Option<Rule>
     requires { length notes.now ≡ PLACES }
     ensures { MatchOption result
-        (jumps_fine (notes_in notes.now) word reset (note_meant now.now) ≡ true) (λ rule. jump_asks rule (notes_in notes.now) word reset (note_meant now.now) ≡ false) }
+        (jumps_fine (notes_in notes.now) word reset (note_meant now.now)
+        ≡ true) (λ rule. jump_asks rule (notes_in notes.now) word reset (note_meant now.now)
+        ≡ false) }
 {
     if word == reset {
         if same_level(now.level, Level::Nmi) {
@@ -209,7 +219,8 @@ fn call_why(notes: &[Option<Note>], word: u16, at: u32, now: &Note) -> Option<Ru
     requires notes { length notes.now ≡ PLACES }
     requires place { at < 65536 }
     ensures { MatchOption result
-        (calls_fine (notes_in notes.now) word at (note_meant now.now) ≡ true) (λ rule. call_asks rule (notes_in notes.now) word at (note_meant now.now) ≡ false) }
+        (calls_fine (notes_in notes.now) word at (note_meant now.now)
+        ≡ true) (λ rule. call_asks rule (notes_in notes.now) word at (note_meant now.now) ≡ false) }
 {
     if is_driver(word) {
         match entry_why(word, now) {
@@ -244,8 +255,10 @@ fn call_why(notes: &[Option<Note>], word: u16, at: u32, now: &Note) -> Option<Ru
 fn quiet_why(notes: &[Option<Note>], sets: Sets, bytes: u8, at: u32, now: &Note) -> Option<Rule>
     requires notes { length notes.now ≡ PLACES }
     requires place { at < 65536 }
-    ensures { MatchOption result (fine_with (kind_meant (Kind.Quiet sets bytes)) (notes_in notes.now) 0 0 0 at (note_meant now.now) ≡ true)
-        (λ rule. asks (kind_meant (Kind.Quiet sets bytes)) rule (notes_in notes.now) 0 0 0 at (note_meant now.now) ≡ false) }
+    ensures { MatchOption result (fine_with (kind_meant (Kind.Quiet sets bytes))
+        (notes_in notes.now) 0 0 0 at (note_meant now.now) ≡ true)
+        (λ rule. asks (kind_meant (Kind.Quiet sets bytes)) rule (notes_in notes.now) 0 0 0 at
+        (note_meant now.now) ≡ false) }
 {
     let held = set(sets, now.held);
     match unled(notes, at + u32::from(bytes), Change::Holds(held), now) {
@@ -266,8 +279,10 @@ fn read_why(
 ) -> Option<Rule>
     requires notes { length notes.now ≡ PLACES }
     requires place { at < 65536 }
-    ensures { MatchOption result (fine_with (kind_meant (Kind.Reads sets place)) (notes_in notes.now) low word 0 at (note_meant now.now) ≡ true)
-        (λ rule. asks (kind_meant (Kind.Reads sets place)) rule (notes_in notes.now) low word 0 at (note_meant now.now) ≡ false) }
+    ensures { MatchOption result (fine_with (kind_meant (Kind.Reads sets place))
+        (notes_in notes.now) low word 0 at (note_meant now.now) ≡ true)
+        (λ rule. asks (kind_meant (Kind.Reads sets place)) rule (notes_in notes.now) low word 0 at
+        (note_meant now.now) ≡ false) }
 {
     if !reached(place, low, word, Test::NoStrobe) {
         return Some(Rule::Strobe);
@@ -289,8 +304,10 @@ fn transfer_why(
 ) -> Option<Rule>
     requires notes { length notes.now ≡ PLACES }
     requires place { at < 65536 }
-    ensures { MatchOption result (fine_with (kind_meant (Kind.Transfer from to)) (notes_in notes.now) 0 0 0 at (note_meant now.now) ≡ true)
-        (λ rule. asks (kind_meant (Kind.Transfer from to)) rule (notes_in notes.now) 0 0 0 at (note_meant now.now) ≡ false) }
+    ensures { MatchOption result (fine_with (kind_meant (Kind.Transfer from to))
+        (notes_in notes.now) 0 0 0 at (note_meant now.now) ≡ true)
+        (λ rule. asks (kind_meant (Kind.Transfer from to)) rule (notes_in notes.now) 0 0 0 at
+        (note_meant now.now) ≡ false) }
 {
     let held = holding(to, of_held(from, now.held), now.held);
     match unled(notes, at + 1, Change::Holds(held), now) {
@@ -310,8 +327,10 @@ fn store_why(
 ) -> Option<Rule>
     requires notes { length notes.now ≡ PLACES }
     requires place { at < 65536 }
-    ensures { MatchOption result (fine_with (kind_meant (Kind.Stores place)) (notes_in notes.now) low word 0 at (note_meant now.now) ≡ true)
-        (λ rule. asks (kind_meant (Kind.Stores place)) rule (notes_in notes.now) low word 0 at (note_meant now.now) ≡ false) }
+    ensures { MatchOption result (fine_with (kind_meant (Kind.Stores place))
+        (notes_in notes.now) low word 0 at (note_meant now.now) ≡ true)
+        (λ rule. asks (kind_meant (Kind.Stores place)) rule (notes_in notes.now) low word 0 at
+        (note_meant now.now) ≡ false) }
 {
     if !reached(place, low, word, Test::Writable(now.level)) {
         return Some(Rule::Writes);
@@ -332,8 +351,10 @@ fn store_why(
 fn push_why(notes: &[Option<Note>], at: u32, now: &Note) -> Option<Rule>
     requires notes { length notes.now ≡ PLACES }
     requires place { at < 65536 }
-    ensures { MatchOption result (fine_with (kind_meant Kind.Push) (notes_in notes.now) 0 0 0 at (note_meant now.now) ≡ true)
-        (λ rule. asks (kind_meant Kind.Push) rule (notes_in notes.now) 0 0 0 at (note_meant now.now) ≡ false) }
+    ensures { MatchOption result (fine_with (kind_meant Kind.Push) (notes_in notes.now) 0 0 0 at
+        (note_meant now.now) ≡ true)
+        (λ rule. asks (kind_meant Kind.Push) rule (notes_in notes.now) 0 0 0 at
+        (note_meant now.now) ≡ false) }
 {
     if now.room < 1 {
         return Some(Rule::Pushes);
@@ -348,8 +369,10 @@ fn push_why(notes: &[Option<Note>], at: u32, now: &Note) -> Option<Rule>
 fn push_flags_why(notes: &[Option<Note>], at: u32, now: &Note) -> Option<Rule>
     requires notes { length notes.now ≡ PLACES }
     requires place { at < 65536 }
-    ensures { MatchOption result (fine_with (kind_meant Kind.PushFlags) (notes_in notes.now) 0 0 0 at (note_meant now.now) ≡ true)
-        (λ rule. asks (kind_meant Kind.PushFlags) rule (notes_in notes.now) 0 0 0 at (note_meant now.now) ≡ false) }
+    ensures { MatchOption result (fine_with (kind_meant Kind.PushFlags)
+        (notes_in notes.now) 0 0 0 at (note_meant now.now) ≡ true)
+        (λ rule. asks (kind_meant Kind.PushFlags) rule (notes_in notes.now) 0 0 0 at
+        (note_meant now.now) ≡ false) }
 {
     if now.room < 1 {
         return Some(Rule::Pushes);
@@ -364,8 +387,10 @@ fn push_flags_why(notes: &[Option<Note>], at: u32, now: &Note) -> Option<Rule>
 fn pull_why(notes: &[Option<Note>], at: u32, now: &Note) -> Option<Rule>
     requires notes { length notes.now ≡ PLACES }
     requires place { at < 65536 }
-    ensures { MatchOption result (fine_with (kind_meant Kind.Pull) (notes_in notes.now) 0 0 0 at (note_meant now.now) ≡ true)
-        (λ rule. asks (kind_meant Kind.Pull) rule (notes_in notes.now) 0 0 0 at (note_meant now.now) ≡ false) }
+    ensures { MatchOption result (fine_with (kind_meant Kind.Pull) (notes_in notes.now) 0 0 0 at
+        (note_meant now.now) ≡ true)
+        (λ rule. asks (kind_meant Kind.Pull) rule (notes_in notes.now) 0 0 0 at
+        (note_meant now.now) ≡ false) }
 {
     if now.depth < 1 {
         return Some(Rule::Pulls);
@@ -381,8 +406,10 @@ fn pull_why(notes: &[Option<Note>], at: u32, now: &Note) -> Option<Rule>
 fn pull_flags_why(notes: &[Option<Note>], at: u32, now: &Note) -> Option<Rule>
     requires notes { length notes.now ≡ PLACES }
     requires place { at < 65536 }
-    ensures { MatchOption result (fine_with (kind_meant Kind.PullFlags) (notes_in notes.now) 0 0 0 at (note_meant now.now) ≡ true)
-        (λ rule. asks (kind_meant Kind.PullFlags) rule (notes_in notes.now) 0 0 0 at (note_meant now.now) ≡ false) }
+    ensures { MatchOption result (fine_with (kind_meant Kind.PullFlags)
+        (notes_in notes.now) 0 0 0 at (note_meant now.now) ≡ true)
+        (λ rule. asks (kind_meant Kind.PullFlags) rule (notes_in notes.now) 0 0 0 at
+        (note_meant now.now) ≡ false) }
 {
     if now.depth < 1 {
         return Some(Rule::Pulls);
@@ -397,8 +424,10 @@ fn pull_flags_why(notes: &[Option<Note>], at: u32, now: &Note) -> Option<Rule>
 fn branch_why(notes: &[Option<Note>], low: u8, at: u32, now: &Note) -> Option<Rule>
     requires notes { length notes.now ≡ PLACES }
     requires place { at < 65536 }
-    ensures { MatchOption result (fine_with (kind_meant Kind.Branch) (notes_in notes.now) low 0 0 at (note_meant now.now) ≡ true)
-        (λ rule. asks (kind_meant Kind.Branch) rule (notes_in notes.now) low 0 0 at (note_meant now.now) ≡ false) }
+    ensures { MatchOption result (fine_with (kind_meant Kind.Branch)
+        (notes_in notes.now) low 0 0 at (note_meant now.now) ≡ true)
+        (λ rule. asks (kind_meant Kind.Branch) rule (notes_in notes.now) low 0 0 at
+        (note_meant now.now) ≡ false) }
 {
     match unled(notes, target(at, low), Change::Same, now) {
         Some(ask) => return Some(Rule::Target(ask)),
@@ -413,7 +442,8 @@ fn branch_why(notes: &[Option<Note>], low: u8, at: u32, now: &Note) -> Option<Ru
 // Returns which rule an RTI breaks.
 fn finish_why(now: &Note) -> Option<Rule>
     ensures { MatchOption result
-        (fine_with (kind_meant Kind.Finish) (λ at. None) 0 0 0 0 (note_meant now.now) ≡ true) (λ rule. finish_asks rule (note_meant now.now) ≡ false) }
+        (fine_with (kind_meant Kind.Finish) (λ at. None) 0 0 0 0 (note_meant now.now)
+        ≡ true) (λ rule. finish_asks rule (note_meant now.now) ≡ false) }
 {
     if !same_level(now.level, Level::Nmi) {
         return Some(Rule::FinishLevel);
@@ -440,8 +470,10 @@ fn why_with(
     requires notes { length notes.now ≡ PLACES }
     requires place { at < 65536 }
     ensures { MatchOption result
-        (fine_with (kind_meant kind) (notes_in notes.now) low word reset at (note_meant now.now) ≡ true)
-        (λ rule. asks (kind_meant kind) rule (notes_in notes.now) low word reset at (note_meant now.now) ≡ false) }
+        (fine_with (kind_meant kind) (notes_in notes.now) low word reset at (note_meant now.now)
+        ≡ true)
+        (λ rule. asks (kind_meant kind) rule (notes_in notes.now) low word reset at
+        (note_meant now.now) ≡ false) }
 {
     match kind {
         Kind::Quiet(sets, bytes) => quiet_why(notes, sets, bytes, at, now),

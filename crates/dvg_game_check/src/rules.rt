@@ -1,5 +1,6 @@
 //! The rules: what is asked of each instruction of a program, and of its reset.
-ghost use Rattle.std.specs.Prelude.{◌≡◌, ℕ, ◌+◌, ◌-◌, ◌<◌, ◌≤◌, ◌&&◌, Some, None, false, length, not, true};
+ghost use Rattle.std.specs.Prelude.{◌≡◌, ℕ, ◌+◌, ◌-◌, ◌<◌, ◌≤◌, ◌&&◌, Some, None, false, length};
+ghost use Rattle.std.specs.Prelude.{not, true};
 ghost use Rattle.std.specs.Prelude.{MatchOption, MatchResult};
 ghost use Rattle.dvg_game_words.specs.Processor as processor;
 ghost use Rattle.dvg_game_words.specs.Checker as rules;

@@ -1,9 +1,12 @@
 //! What is found of a place while notes are made, and what an instruction makes of it.
-ghost use Rattle.std.specs.Prelude.{◌≡◌, ◌≤◌, ◌&&◌, ◌||◌, ℕ, List, Option, [], false, length, map, true};
+ghost use Rattle.std.specs.Prelude.{◌≡◌, ◌≤◌, ◌&&◌, ◌||◌, ℕ, List, Option, [], false, length, map};
+ghost use Rattle.std.specs.Prelude.{true};
 ghost use Rattle.dvg_game_words.specs.Checker as rules;
 ghost use Rattle.dvg_game_words.specs.Checker.{noted, starts, interrupts};
-ghost use Rattle.dvg_game_check.specs.Least.{Comes, ComesAt, IsUnder, found_meant, stacked, state_meant, states_in};
-ghost use Rattle.dvg_game_check.specs.Rules.{changed, held_meant, level_meant, note_meant, slot_meant};
+ghost use Rattle.dvg_game_check.specs.Least.{Comes, ComesAt, IsUnder, found_meant, stacked};
+ghost use Rattle.dvg_game_check.specs.Least.{state_meant, states_in};
+ghost use Rattle.dvg_game_check.specs.Rules.{changed, held_meant, level_meant, note_meant};
+ghost use Rattle.dvg_game_check.specs.Rules.{slot_meant};
 
 use crate::follow::{FIRST, PLACES, same_level};
 use crate::note::{Change, Held, Level, Note, SLOTS, Slot};
@@ -67,7 +70,8 @@ pub fn at_start() -> State
 
 /// Returns what holds where the NMI comes.
 pub fn at_nmi() -> State
-    ensures { (note : Option rules.Note) → interrupts note ≡ true → ComesAt (state_meant result) note }
+    ensures { (note : Option rules.Note) → interrupts note ≡ true
+        → ComesAt (state_meant result) note }
 {
     begins(Level::Nmi, UNCHANGED)
 }
@@ -122,7 +126,8 @@ fn pulled(state: State, held: Held) -> State
 
 /// Returns what is found behind an instruction that changes this.
 pub fn after(state: State, change: Change) -> State
-    ensures { (n : rules.Note) → Comes (changed change (state_meant state)) n → Comes (state_meant result) n }
+    ensures { (n : rules.Note) → Comes (changed change (state_meant state)) n
+        → Comes (state_meant result) n }
 {
     let mut new = state;
     match change {
@@ -153,7 +158,8 @@ pub fn after(state: State, change: Change) -> State
 // Returns what a byte holds whichever of two ways leads to a place.
 fn joined_slot(one: Slot, other: Slot) -> Slot
     ensures { (asked : rules.Slot) → rules.serves asked (slot_meant one) ≡ true
-        → rules.serves asked (slot_meant other) ≡ true → rules.serves asked (slot_meant result) ≡ true }
+        → rules.serves asked (slot_meant other) ≡ true
+        → rules.serves asked (slot_meant result) ≡ true }
 {
     if one == other { one } else { Slot::Any }
 }
@@ -161,7 +167,8 @@ fn joined_slot(one: Slot, other: Slot) -> Slot
 // Returns what two ways leave on the stack.
 fn joined_slots(one: [Slot; SLOTS], other: [Slot; SLOTS]) -> [Slot; SLOTS]
     ensures { (asked : List rules.Slot) (depth : ℕ) → depth ≤ SLOTS
-        → rules.serve asked (stacked one depth) ≡ true → rules.serve asked (stacked other depth) ≡ true
+        → rules.serve asked (stacked one depth) ≡ true
+        → rules.serve asked (stacked other depth) ≡ true
         → rules.serve asked (stacked result depth) ≡ true }
 {
     let mut joined = one;
@@ -174,7 +181,8 @@ fn joined_slots(one: [Slot; SLOTS], other: [Slot; SLOTS]) -> [Slot; SLOTS]
 // Returns what A, X and Y hold whichever of two ways leads to a place.
 fn joined_held(one: Held, other: Held) -> Held
     ensures { (asked : rules.Held) → rules.all_serve asked (held_meant one) ≡ true
-        → rules.all_serve asked (held_meant other) ≡ true → rules.all_serve asked (held_meant result) ≡ true }
+        → rules.all_serve asked (held_meant other) ≡ true
+        → rules.all_serve asked (held_meant result) ≡ true }
 {
     Held {
         a: joined_slot(one.a, other.a),
@@ -185,9 +193,11 @@ fn joined_held(one: Held, other: Held) -> Held
 
 // Returns what two ways leave on the stack, if that is of the NMI.
 fn met_slots(old: State, new: State) -> [Slot; SLOTS]
-    ensures { rules.same_level (level_meant old.level) rules.Nmi ≡ true → (asked : List rules.Slot) (depth : ℕ)
+    ensures { rules.same_level (level_meant old.level) rules.Nmi ≡ true
+        → (asked : List rules.Slot) (depth : ℕ)
         → depth ≤ SLOTS → rules.serve asked (stacked old.slots depth) ≡ true
-        → rules.serve asked (stacked new.slots depth) ≡ true → rules.serve asked (stacked result depth) ≡ true }
+        → rules.serve asked (stacked new.slots depth) ≡ true
+        → rules.serve asked (stacked result depth) ≡ true }
 {
     if !same_level(old.level, Level::Nmi) {
         return old.slots;

@@ -1,11 +1,13 @@
 //! Where an instruction goes on, and what it needs.
-ghost use Rattle.std.specs.Prelude.{◌≡◌, ◌+◌, ◌<◌, ◌≤◌, ◌&&◌, ◌||◌, ℕ, Option, Some, IfSome, length, true};
+ghost use Rattle.std.specs.Prelude.{◌≡◌, ◌+◌, ◌<◌, ◌≤◌, ◌&&◌, ◌||◌, ℕ, Option, Some, IfSome};
+ghost use Rattle.std.specs.Prelude.{length, true};
 ghost use Rattle.dvg_game_words.specs.Checker as rules;
 ghost use Rattle.dvg_game_words.specs.Checker.{Notes, ends_of, fine_at, implies, noted};
 ghost use Rattle.dvg_game_words.specs.Kinds as kinds;
 ghost use Rattle.dvg_game_words.specs.Machine.{is_reset};
 ghost use Rattle.dvg_game_check.specs.Least as least;
-ghost use Rattle.dvg_game_check.specs.Least.{AreUnder, Comes, IsNeeded, IsOnward, IsStep, IsUnder, UnderAt, passes, state_meant, states_in};
+ghost use Rattle.dvg_game_check.specs.Least.{AreUnder, Comes, IsNeeded, IsOnward, IsStep, IsUnder};
+ghost use Rattle.dvg_game_check.specs.Least.{UnderAt, passes, state_meant, states_in};
 ghost use Rattle.dvg_game_check.specs.Meant.{kind_meant};
 ghost use Rattle.dvg_game_check.specs.Rules.{HasBytes, calls_fine, fine_with, jumps_fine};
 
@@ -255,7 +257,8 @@ fn needs_before(one: Onward, next: State) -> Needs
 // Returns what is needed where both are.
 fn most(one: Needs, other: Needs) -> Needs
     ensures { (n : rules.Note) → IsNeeded one.room one.fuel one.ends n
-        → IsNeeded other.room other.fuel other.ends n → IsNeeded result.room result.fuel result.ends n }
+        → IsNeeded other.room other.fuel other.ends n
+        → IsNeeded result.room result.fuel result.ends n }
 {
     let ends = either(one.ends, other.ends);
     Needs {
@@ -269,7 +272,8 @@ fn most(one: Needs, other: Needs) -> Needs
 fn with_onward(states: &[Option<State>], onward: Option<Onward>, needs: Needs) -> Needs
     requires { length states.now ≡ PLACES }
     ensures { (m n : rules.Note) (notes : Notes) → AreUnder (states_in states.now) notes
-        → IfSome onward (λ one. IsOnward one m n notes) → IsNeeded needs.room needs.fuel needs.ends n
+        → IfSome onward (λ one. IsOnward one m n notes)
+        → IsNeeded needs.room needs.fuel needs.ends n
         → IsNeeded result.room result.fuel result.ends n }
 {
     let Some(one) = onward else {

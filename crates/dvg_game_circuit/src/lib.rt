@@ -31,7 +31,8 @@ pub fn circuits_keep_by_bytes()
     games_on_cells_keep_by_bytes();
 }
 
-/// So does each run of the circuit whose ROMs hold examples/asteroid_game at power-up (`HoldsGame`):
+/// So does each run of the circuit whose ROMs hold examples/asteroid_game at power-up
+(`HoldsGame`):
 /// no other premise is left but that pins are bits and bytes.
 pub fn asteroid_circuit_keeps()
     ensures { Asteroid }

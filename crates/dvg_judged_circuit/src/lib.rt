@@ -1,5 +1,5 @@
-//! What the judge's yes to a program says of each run of it on a whole board as one circuit. There is
-//! no code here: the law is the contract of a function that does nothing.
+//! What the judge's yes to a program says of each run of it on a whole board as one circuit. There
+//! is no code here: the law is the contract of a function that does nothing.
 #![tactic(auto)]
 
 ghost use Rattle.dvg_judged_circuit.specs.Judged.{JudgedOnCircuitKeeps};

@@ -1,7 +1,7 @@
 //! What a job reports of what its engine returns.
 ghost use Rattle.std.specs.Prelude.{◌≡◌};
-ghost use Rattle.dvg_tool.specs.Reports.{IsReported, of_bounded, of_explained, of_frames, of_log, of_told};
-ghost use Rattle.dvg_tool.specs.Reports.{of_made};
+ghost use Rattle.dvg_tool.specs.Reports.{IsReported, of_bounded, of_explained, of_frames, of_log};
+ghost use Rattle.dvg_tool.specs.Reports.{of_made, of_told};
 ghost use Rattle.dvg_tool.specs.Reports.{of_moments, of_outcome, of_undrawn, of_verdict, written};
 ghost use Rattle.dvg_tool.specs.declared.outcome.Done.{Done as HeldDone};
 
