@@ -32,8 +32,7 @@ pub fn circuits_keep_by_bytes()
 }
 
 /// So does each run of the circuit whose ROMs hold examples/asteroid_game at power-up
-(`HoldsGame`):
-/// no other premise is left but that pins are bits and bytes.
+/// (`HoldsGame`): no other premise is left but that pins are bits and bytes.
 pub fn asteroid_circuit_keeps()
     ensures { Asteroid }
 {

@@ -2112,8 +2112,8 @@ pub(crate) fn tell_boot<A: Allocator>(
     );
     write!(
         out,
-        "a reset begins with LDX #$FF, TXS, after 31 instructions at most; before it come loads and \
-         stores alone: "
+        "a reset begins with LDX #$FF, TXS, after 31 instructions at most; before it come loads \
+         and stores alone: "
     )?;
     if is_nmi {
         return write!(out, "VECTORS has .word nmi, reset, irq, in this order");
