@@ -1941,7 +1941,7 @@ async function testFlight() {
   await expectSoon('and tears', true, () => tab.value(STOPPED));
   await tab.size(1280, 900);
   for (const [one, text] of [[`${top}examples/cave/game.s`,
-    /^game\.s\. This is the source .* drop what that writes: build\/game\.program and build\/rom, /],
+    /^game\.s\. This is the source .* drop what that writes: build\/game\.program and build\/rom/],
   [filesOfCave()[1], /^rom is a vector ROM, /]]) {
     await tab.drop('side-cut', one);
     await expectSoon('a wrong file is told', text, () => tab.text('both-said'));

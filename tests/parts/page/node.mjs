@@ -771,7 +771,7 @@ function testLessons() {
       plainFragment(withLesson({ lesson: String(k + 1) })));
     expect('which may say which event', '44', withLesson({ lesson: k + 1, at: '44' }).at);
   });
-  for (const state of [{ lesson: '9' }, {}, { lesson: '1', trace: 'tick' }]) {
+  for (const state of [{}, { lesson: '1', trace: 'tick' }]) {
     expect('others stay as they are', plainFragment(state), plainFragment(withLesson(state)));
   }
 }
