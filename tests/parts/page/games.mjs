@@ -1095,9 +1095,10 @@ function expectModules(script, names) {
     const all = script.split('\n');
     let differ = 0, code = 0;
     for (const [k, line] of all.entries()) {
-      const [, where] = /^([a-z]+\.mjs):([0-9]+)$/.exec(inModules(`dvg.html:${k + 1}`, script)) ?? [];
+      const place = inModules(`dvg.html:${k + 1}`, script);
+      const [, where] = /^([a-z]+\.mjs):([0-9]+)$/.exec(place) ?? [];
       if (where !== `${name}.mjs` || !/^ *[a-z].*[;{]$/.test(line)) continue;
-      const number = Number(/[0-9]+$/.exec(inModules(`dvg.html:${k + 1}`, script)));
+      const number = Number(/[0-9]+$/.exec(place));
       if (/^const \{.*\} = \$/.test(line) || line.startsWith('return { ')) continue;
       code++;
       if (lines[number - 1].replace(/^export /, '') !== line) differ++;
@@ -1484,8 +1485,8 @@ function testFaultsOfFiles(whole, rom, sockets) {
   const other = { ...random, name: 'ram' }, leads = [...other.bytes.slice(-6, -2)].map((byte) => (
     byte.toString(16).toUpperCase().padStart(2, '0')));
   const nowhere = ({ name }) => `${name} has the length of a program, but its vectors lead `
-    + `nowhere: by its last six bytes an NMI goes to ${leads[1]}${leads[0]}, and a reset to ${leads[3]}`
-    + `${leads[2]}. Both must be of its own code.`;
+    + `nowhere: by its last six bytes an NMI goes to ${leads[1]}${leads[0]}, and a reset to `
+    + `${leads[3]}${leads[2]}. Both must be of its own code.`;
   for (const [what, files, wanted] of [['a game', [whole, rom], ''], ['no game', [random],
     nowhere(random)], ['beside a ROM', [other, rom], nowhere(other)],
     ['alone', [other], ''], ['beside NP3', [other, np3], nowhere(other)]]) {
