@@ -1016,7 +1016,8 @@ async function testEmbed() {
     await tab.size(width, height, false);
     for (const [link, ...parts] of [
       ['lesson=6', '#screen', '#rows', '#run', '#wire', '#verdicts', '#moment-text'],
-      ['game=Rocks', '#tube', '.pads', '#run-moments', '#run-left', '#game-wire', '#what-text']]) {
+      ['game=Rocks', '#tube', '.cabinet .pads', '#run-moments', '#run-left', '#game-wire',
+        '#what-text']]) {
       await tab.open(`${front}#${link}&embed=1`);
       await expectSoon(`${link} at ${width} by ${height}: in view`, '', () => outOfView(parts));
       expect(`${link}: it doesn't scroll`, true, await tab.value(
@@ -1251,7 +1252,7 @@ async function testMend() {
   await expectTour('the tour ends', '1 of 3: Whole', '2 of 3: Cut', '3 of 3: Torn');
   await tab.click('wire');
   expect('mended, nothing is judged yet',
-    /^\/No picture to judge since the wire was mended\. \/$/,
+    /^\/No picture is finished since the wire was mended\. \/$/,
     await verdicts());
   await tab.click('run');
   await expectSoon('each picture since is whole', VERDICTS.mended, verdicts);
@@ -2542,8 +2543,8 @@ async function inTabOf(source, act) {
   await tab.send('Page.bringToFront');
 }
 
-// What was in use from the second time on doesn't grow.
-function expectFlat(what, [, ...sizes], began) {
+// What was in use from the third time on doesn't grow.
+function expectFlat(what, [, , ...sizes], began) {
   const [least, most] = [Math.min(...sizes), Math.max(...sizes)];
   const seconds = Math.round((Date.now() - began) / 1000);
   console.log(`browser: ${what} in ${seconds} s: the page has ${megabytes(least)} to `

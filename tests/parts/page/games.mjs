@@ -1313,7 +1313,7 @@ function testAnswers() {
 
 // At each moment of the rows the tube shows the run that is open then, as far as its strokes have
 // been drawn: as many as have an end before it.
-function testMoments() {
+function testTubeMoments() {
   globalThis.ImageData = Image;
   const { play, parts } = playOnStage();
   Object.assign(parts.tube, { width: 400, height: 400 });
@@ -1636,7 +1636,7 @@ const TESTS = [
   testMendedBoard, testRate, testBoard, testNmi,
   testGamepads, testSoundLatches, testSounding, testSpeaker, testSoundButton, testGamePage,
   testMakePage, testGameLinks, testNothingYet, testAnswers, testGameFiles, testOutlines,
-  testMoments, testOwnStore, testMistake, testEvery, testTaped, testCaveTears, testBeams,
+  testTubeMoments, testOwnStore, testMistake, testEvery, testTaped, testCaveTears, testBeams,
 ];
 for (const test of TESTS) if (named.length === 0 || named.includes(test.name)) await test();
 end();
