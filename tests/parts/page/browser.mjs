@@ -2543,18 +2543,19 @@ async function inTabOf(source, act) {
   await tab.send('Page.bringToFront');
 }
 
-// What was in use from the third time on doesn't grow.
-function expectFlat(what, [, , ...sizes], began) {
-  const [least, most] = [Math.min(...sizes), Math.max(...sizes)];
+// What is in use in the second half of the time is no more than in the first one, whose first time
+// isn't counted.
+function expectFlat(what, [, ...sizes], began) {
+  const before = Math.max(...sizes.slice(0, sizes.length / 2)), most = Math.max(...sizes);
   const seconds = Math.round((Date.now() - began) / 1000);
-  console.log(`browser: ${what} in ${seconds} s: the page has ${megabytes(least)} to `
+  console.log(`browser: ${what} in ${seconds} s: the page has ${megabytes(Math.min(...sizes))} to `
     + `${megabytes(most)} in use`);
-  expect(`${what}: memory doesn't grow: ${sizes}`, true, sizes.at(-1) < sizes[0] + 2e5
-    && most < sizes[0] + 6e5);
+  expect(`${what}: memory doesn't grow: ${sizes}`, true, sizes.at(-1) < before + 2e5
+    && most < before + 6e5);
 }
 
 // Over minutes of a game, which go by as fast as they can, the page's memory stays what it was
-// after the first fifth of them.
+// in the first half of them.
 async function testMinutes() {
   await inTabOf(FAST_TIME, async () => {
     await tab.open(rocks);
